@@ -4,7 +4,7 @@ use Rattle.std.proofs.Math.Path.{fun_ext}
 use Rattle.std.proofs.lemmas.Bool.{cases_eq, cond-true, cond-false, false≢true, ne_eqb, not-true, not-false}
 use Rattle.model.specs.declared.limits.Limits.{Limits}
 use Rattle.model.specs.declared.attributes.Attributes.{Attributes}
-use Rattle.model.specs.Attributes.{new_attributes}
+use Rattle.model.specs.Attributes.{new_attributes, no_attributes}
 use Rattle.model.specs.Changes.{ChangesTree}
 use Rattle.model.specs.Changing.{truncated_to, need_of_truncate}
 use Rattle.model.specs.Descriptors.{opens_file, opens_new, opens_object}
@@ -19,7 +19,7 @@ use Rattle.model.specs.Resolution.{Resolution}
 use Rattle.model.specs.Room.{Need, Work, adds_name, changes_size, logs, nothing}
 use Rattle.model.specs.Trees.{Tree, Object, Description, IsTree}
 use Rattle.model.specs.Trees as trees
-use Rattle.model.specs.Volumes.{IsMounted, IsVolume, Node, directory_node, file_node, link_node, Volume, bytes_of_node, is_directory_node, is_file_node, mode_of, object_of, set_name, swept, tree_of, with_node}
+use Rattle.model.specs.Volumes.{IsMounted, IsVolume, Node, directory_node, file_node, link_node, Volume, bytes_of_node, is_directory_node, is_file_node, attributes_of, object_of, set_name, swept, tree_of, with_node}
 use Rattle.model.specs.declared.command.Flags.{Flags}
 use Rattle.model.specs.declared.errno.Errno.{Errno}
 use Rattle.model.specs.declared.errno.Errno.TheVariants.{DIRFULL, EEXIST, EISDIR, ENOENT, NONUMBER}
@@ -81,8 +81,8 @@ module _ (limits : Limits) (v : Volume) (table : ℕ → Option Description) (li
         o.links,
         links_law limits v table o.number attributes o.links bytes volume is,
         (
-          ap (λ (m : ℕ). replies.Opened fd (stat_with m o.size)) (mode ∙ sym (ap (λ (x : Option Node). unwrap_or (mode_of x) 0) is))
-              ∙ ap (λ (k : ℕ). replies.Opened fd (stat_with (unwrap_or (mode_of (v o.number)) 0) k)) (size ∙ sym (ap (λ (x : Option Node). length (unwrap_or (bytes_of_node x) [])) is)),
+          ap (λ (m : ℕ). replies.Opened fd (stat_with m o.size)) (mode ∙ sym (ap (λ (x : Option Node). (unwrap_or (attributes_of x) no_attributes).mode) is))
+              ∙ ap (λ (k : ℕ). replies.Opened fd (stat_with ((unwrap_or (attributes_of (v o.number)) no_attributes).mode) k)) (size ∙ sym (ap (λ (x : Option Node). length (unwrap_or (bytes_of_node x) [])) is)),
           refl,
           refl,
         ),

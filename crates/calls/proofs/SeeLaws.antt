@@ -3,7 +3,9 @@ use Rattle.std.proofs.Common.{◌≡◌, inl, inr, ℕ, List, [], ◌∷◌, ◌
 use Rattle.std.specs.Prelude.{nat_abs, nat_lt, ◌==◌, IsTrue, unwrap_or}
 use Rattle.std.proofs.lemmas.Bool.{false≢true}
 use Rattle.model.specs.Counting.{Counts}
-use Rattle.model.specs.Edits.{contents, read_at}
+use Rattle.model.specs.Attributes.{no_attributes}
+use Rattle.model.specs.declared.attributes.Attributes.{Attributes}
+use Rattle.model.specs.Edits.{attributes_at, contents, read_at}
 use Rattle.model.specs.Entries.{TellsEntries, TellsEntry, with_part}
 use Rattle.model.specs.Outcomes.{Outcome, answers, either, goes_to, leads_from, leads_to, refuses, tested, with_names, with_number, HasLinks, IsListing}
 use Rattle.model.specs.Paths.{Name, Path, Tests, first_refusal, is_empty, parts, parts_behind, start_number, text_tests, text_tests_then}
@@ -214,12 +216,12 @@ module _ (old new : Tree) (forgets : ForgetsOpenFiles old new) where
 
     same_stat : (o : Object) (count : ℕ) → StandsIn o → stat_of old o count ≡ stat_of new o count
     same_stat (directory n) count (p, is) =
-        ap (λ (m : Option ℕ). record { number = n; kind = Dir; mode = unwrap_or m 0; links = count; size = 0 }) (sym (forgets.kept n (p, directory n, is, refl)).1)
+        ap (λ (m : Option Attributes). record { number = n; kind = Dir; mode = (unwrap_or m no_attributes).mode; links = count; size = 0 }) (sym (forgets.kept n (p, directory n, is, refl)).1)
     same_stat (symlink n text) count stands = refl
     same_stat (file n) count (p, is) =
         let kept = forgets.kept n (p, file n, is, refl) in
-        ap (λ (m : Option ℕ). record { number = n; kind = File; mode = unwrap_or m 0; links = count; size = length (unwrap_or (old.bytes n) []) }) (sym kept.1)
-        ∙ ap (λ (b : Option (List ℕ)). record { number = n; kind = File; mode = unwrap_or (new.mode n) 0; links = count; size = length (unwrap_or b []) }) (sym kept.0)
+        ap (λ (m : Option Attributes). record { number = n; kind = File; mode = (unwrap_or m no_attributes).mode; links = count; size = length (unwrap_or (old.bytes n) []) }) (sym kept.1)
+        ∙ ap (λ (b : Option (List ℕ)). record { number = n; kind = File; mode = (attributes_at new n).mode; links = count; size = length (unwrap_or b []) }) (sym kept.0)
 
     stats_same : (p : Path) (o : Object) → StandsIn o → Sees (told_of old p o) (told_of new p o)
     stats_same p o stands (count, has, told) = (count, has_links o count has, (told.0 ∙ ap Stat (same_stat o count stands), refl, refl))

@@ -24,9 +24,10 @@ use Rattle.model.specs.Reading.{stats, reads_link, tells_stat}
 use Rattle.model.specs.Room.{nothing}
 use Rattle.model.specs.Trees.{Tree, Object, Description}
 use Rattle.model.specs.Trees as trees
-use Rattle.model.specs.Volumes.{Node, directory_node, file_node, link_node, Volume, mode_of, bytes_of_node, object_of, tree_of, IsVolume}
+use Rattle.model.specs.Volumes.{Node, directory_node, file_node, link_node, Volume, attributes_of, bytes_of_node, object_of, tree_of, IsVolume}
 use Rattle.model.specs.declared.errno.Errno.{Errno}
 use Rattle.model.specs.declared.errno.Errno.TheVariants.{EINVAL}
+use Rattle.model.specs.Attributes.{no_attributes}
 use Rattle.model.specs.declared.limits.TheConstants.{LINK_MODE}
 use Rattle.model.specs.declared.reply.FileType.TheVariants.{File, Dir, Link}
 use Rattle.model.specs.declared.reply.Reply.TheVariants as replies
@@ -64,14 +65,14 @@ module _ (v : Volume) (table : ℕ → Option Description) where
     told (directory_node attributes names) x is object =
         subst (λ (y : Object). tells_stat t y (replies.Stat (stat_in n (directory_node attributes names))) t nothing)
         (object_by n v (directory_node attributes names) (trees.directory n) x is refl object)
-        (1, refl, (ap (λ (m : ℕ). replies.Stat (record { number = n; kind = Dir; mode = m; links = 1; size = 0 })) (sym (ap (λ (o : Option Node). unwrap_or (mode_of o) 0) is)), refl, refl))
+        (1, refl, (ap (λ (m : ℕ). replies.Stat (record { number = n; kind = Dir; mode = m; links = 1; size = 0 })) (sym (ap (λ (o : Option Node). (unwrap_or (attributes_of o) no_attributes).mode) is)), refl, refl))
     told (file_node attributes links bytes) x is object =
         subst (λ (y : Object). tells_stat t y (replies.Stat (stat_in n (file_node attributes links bytes))) t nothing)
         (object_by n v (file_node attributes links bytes) (trees.file n) x is refl object) (
           links,
           tell_links limits v table n attributes links bytes volume is,
           (
-            ap (λ (o : Option Node). replies.Stat (record { number = n; kind = File; mode = unwrap_or (mode_of o) 0; links = links; size = length (unwrap_or (bytes_of_node o) []) })) (sym is),
+            ap (λ (o : Option Node). replies.Stat (record { number = n; kind = File; mode = (unwrap_or (attributes_of o) no_attributes).mode; links = links; size = length (unwrap_or (bytes_of_node o) []) })) (sym is),
             refl,
             refl,
           ),

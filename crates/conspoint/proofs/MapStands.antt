@@ -126,7 +126,7 @@ module _ {s : Sizes} {d e : Blocks} {old : Inode} {before after : Draft} {settle
   inode_is : IsInode s (own_inode tops before.map.count)
   inode_is = record {
     layout = sym is.plain;
-    attributes = new_fit 0 (omega arith);
+    attributes = new_fit false 0 (omega arith);
     size = omega (arith, w.most);
     kind = (refl, refl, ap (λ x. 4 * x) is.blocks);
     body = (

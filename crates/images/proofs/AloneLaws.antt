@@ -54,7 +54,7 @@ good_node : (limits : Limits) (n : ℕ) → IfSome (alone n) (IsNode limits)
 good_node limits zero = tt
 good_node limits (suc zero) = tt
 good_node limits (suc (suc zero)) = tt
-good_node limits (suc (suc (suc zero))) = new_fit 0o755 (omega arith)
+good_node limits (suc (suc (suc zero))) = new_fit limits.has_attributes 0o755 (omega arith)
 good_node limits (suc (suc (suc (suc n)))) = tt
 
 some_not_none : {o : Option ℕ} → IsSome o → o ≡ None → ⊥
@@ -94,12 +94,12 @@ objects_alone (x ∷ p) = ap (object_at alone) (nowhere p)
 test_other : (i j : ℕ) → i ≢ j → eqb i j ≡ false
 test_other i j other = grind (arith, nat_tests)
 
-modes_alone : (n : ℕ) → (tree_of alone (λ d. None)).mode n ≡ (root_alone 0o755).mode n
-modes_alone zero = refl
-modes_alone (suc zero) = refl
-modes_alone (suc (suc zero)) = refl
-modes_alone (suc (suc (suc zero))) = refl
-modes_alone (suc (suc (suc (suc n)))) = let other : eqb (suc (suc (suc (suc n)))) 3 ≡ false = test_other (suc (suc (suc (suc n)))) 3 (λ e. absurd (omega (arith, e))) in rw other refl
+attributes_alone : (n : ℕ) → (tree_of alone (λ d. None)).attributes n ≡ (root_alone 0o755).attributes n
+attributes_alone zero = refl
+attributes_alone (suc zero) = refl
+attributes_alone (suc (suc zero)) = refl
+attributes_alone (suc (suc (suc zero))) = refl
+attributes_alone (suc (suc (suc (suc n)))) = let other : eqb (suc (suc (suc (suc n)))) 3 ≡ false = test_other (suc (suc (suc (suc n)))) 3 (λ e. absurd (omega (arith, e))) in rw other refl
 
 bytes_alone : (n : ℕ) → (tree_of alone (λ d. None)).bytes n ≡ (root_alone 0o755).bytes n
 bytes_alone zero = refl
@@ -112,7 +112,7 @@ pub tree_alone : tree_of alone (λ d. None) ≡ root_alone 0o755
 tree_alone = λ i. record {
   objects = λ p. objects_alone p i;
   bytes = λ n. bytes_alone n i;
-  mode = λ n. modes_alone n i;
+  attributes = λ n. attributes_alone n i;
   descriptors = λ d. None;
 }
 

@@ -10,7 +10,7 @@ use Rattle.layout.specs.FileBytes.{byte_in}
 use Rattle.layout.specs.Inode.{IsInode, inode_bytes}
 use Rattle.layout.specs.Limits.{Sizes}
 use Rattle.layout.specs.Places.{Blocks, place, pointed}
-use Rattle.layout.specs.Trees.{level_of}
+use Rattle.layout.specs.Trees.{has_attributes, level_of}
 use Rattle.layout.specs.declared.inode.Body.TheVariants.{Inline}
 use Rattle.layout.specs.declared.inode.Inode.{Inode}
 use Rattle.layout.specs.declared.pointer.Pointer.TheVariants.{Hole, Block}
@@ -69,11 +69,11 @@ zero_sound s d f fits body level = record {
 
 pub free_fits : (s : Sizes) → IsInode s (free_inode s.layout)
 unfolding zeros
-free_fits s = record { layout = refl; attributes = new_fit 0 (omega arith); size = omega arith; kind = (refl, refl, refl); body = (omega arith, length-replicate {A = ℕ} 128 0, refl) }
+free_fits s = record { layout = refl; attributes = new_fit (has_attributes s.layout) 0 (omega arith); size = omega arith; kind = (refl, refl, refl); body = (omega arith, length-replicate {A = ℕ} 128 0, refl) }
 
 pub directory_fits : (s : Sizes) → IsInode s (empty_directory s.layout)
 unfolding zeros
-directory_fits s = record { layout = refl; attributes = new_fit 0o755 (omega arith); size = omega arith; kind = (refl, refl); body = (omega arith, length-replicate {A = ℕ} 128 0, refl) }
+directory_fits s = record { layout = refl; attributes = new_fit (has_attributes s.layout) 0o755 (omega arith); size = omega arith; kind = (refl, refl); body = (omega arith, length-replicate {A = ℕ} 128 0, refl) }
 
 pub free_sound : (s : Sizes) (d : Blocks) → IsSoundFile s (held d (free_inode s.layout))
 free_sound s d = zero_sound s d (free_inode s.layout) (free_fits s) refl refl

@@ -7,10 +7,11 @@ use Rattle.model.specs.declared.limits.Limits.{Limits}
 use Rattle.layout.specs.Bytes.{IsBytes}
 use Rattle.layout.specs.Record.{IsChange}
 use Rattle.model.specs.declared.attributes.Attributes.{Attributes}
+use Rattle.model.specs.Attributes.{set_mode}
 use Rattle.model.specs.Counting.{Counts}
 use Rattle.model.specs.Edits.{resized, written}
 use Rattle.model.specs.Paths.{Name}
-use Rattle.model.specs.Records.{Applies, CanReplace, Change, IsBelow, IsEmpty, Made, TakesName, applied, change_mode, create, truncate, directory, file, is_vacant, link, node_of, rename, set_file, symbolic_link, remove_name, with_bits, with_file_bytes, with_node_mode, with_size, write}
+use Rattle.model.specs.Records.{Applies, CanReplace, Change, IsBelow, IsEmpty, Made, TakesName, applied, change_mode, create, truncate, directory, file, is_vacant, link, node_of, rename, set_file, symbolic_link, remove_name, with_bits, with_file_bytes, with_node_attributes, with_size, write}
 use Rattle.model.specs.Volumes.{Entries, Node, Volume, directory_node, entries, file_node, is_directory_node, is_file_node, link_node, released, set_name, with_entry, with_name_less, with_name_more, with_node}
 use Rattle.model.proofs.MoveLemmas.{bytes_by, bytes_names}
 use Rattle.images.specs.Replaying.{LeavesPlace, ReadsParts, bytes_of_node}
@@ -94,12 +95,12 @@ less (Some (directory_node attributes names)) = refl
 less (Some (file_node attributes links bytes)) = refl
 less (Some (link_node attributes text)) = refl
 
-moded : (bits : ℕ) → Commutes (with_node_mode bits)
+changed : (f : Attributes → Attributes) → Commutes (with_node_attributes f)
 unfolding Commutes
-moded bits None = refl
-moded bits (Some (directory_node attributes names)) = refl
-moded bits (Some (file_node attributes links bytes)) = refl
-moded bits (Some (link_node attributes text)) = refl
+changed f None = refl
+changed f (Some (directory_node attributes names)) = refl
+changed f (Some (file_node attributes links bytes)) = refl
+changed f (Some (link_node attributes text)) = refl
 
 with_bytes : (f : List ℕ → List ℕ) → ((bytes : List ℕ) → low_bytes (f bytes) ≡ f (low_bytes bytes)) → Commutes (with_file_bytes f)
 unfolding Commutes
@@ -146,9 +147,9 @@ low_applied (rename d x k y) v is =
     ∙ ap (λ (e : Entries). with_entry k y (e d x) (with_entry d x None (released (entries (low v) k y) (low v)))) (sym (low_entries v))
 low_applied (write number offset bytes) v is = change_low (with_file_bytes (written offset bytes)) (with_bytes (written offset bytes) (λ b. low_written offset bytes b is.fields.1)) number v
 low_applied (truncate number size) v is = change_low (with_file_bytes (resized size)) (with_bytes (resized size) (low_resized size)) number v
-low_applied (change_mode number mode) v is = change_low (with_node_mode mode) (moded mode) number v
+low_applied (change_mode number mode) v is = change_low (with_node_attributes (set_mode mode)) (changed (set_mode mode)) number v
 low_applied (set_file number mode size) v is =
-    change_low (with_node_mode mode) (moded mode) number (with_size number size v)
+    change_low (with_node_attributes (set_mode mode)) (changed (set_mode mode)) number (with_size number size v)
     ∙ ap (with_bits number mode) (change_low (with_file_bytes (resized size)) (with_bytes (resized size) (low_resized size)) number v)
 
 -- ---- a record that applies to the one applies to the other

@@ -9,10 +9,10 @@ use Rattle.layout.specs.declared.inode.Body.TheVariants.{Inline, Pointers}
 use Rattle.layout.specs.declared.inode.Inode.{Inode}
 use Rattle.layout.specs.declared.kind.Kind.{Kind}
 use Rattle.layout.specs.declared.kind.Kind.TheVariants as kinds
-use Rattle.layout.specs.Trees.{level_of}
+use Rattle.layout.specs.Trees.{has_attributes, level_of}
 use Rattle.layout.specs.declared.trees.Layout.{Layout}
 use Rattle.model.specs.declared.attributes.Attributes.{Attributes}
-use Rattle.model.specs.Attributes.{AreAttributes}
+use Rattle.model.specs.Attributes.{FitAttributes}
 use Rattle.model.specs.Volumes.{Node}
 use Rattle.blocktree.specs.Places.{block_count, depth_of}
 use Rattle.images.specs.Contents.{Content}
@@ -112,7 +112,7 @@ pub loaded_object : (detail : Detail) (disk : ℕ → List ℕ) (inodes : ℕ) (
     → EndsIn detail disk o.file → IsOrdinary i.kind → StandsForIn detail inodes (held_content disk i) found → IsObjectIn detail disk inodes i o found
 loaded_object detail disk inodes s i o found inode is same ends ordinary stands = record {
   kind = subst (λ (a : Status). IsObjectKind a.kind) (sym is.status) (object_kind i.kind is.used ordinary);
-  attributes = subst (λ (a : Status). AreAttributes a.attributes) (sym is.status) inode.attributes;
+  attributes = subst (λ (a : Status). FitAttributes (has_attributes i.layout) a.attributes) (sym is.status) inode.attributes;
   fits = λ t.
       subst (λ (a : Status). FitsKind a.kind t a.attributes a.links o.file.size) (sym is.status)
       (subst (FitsKind i.kind t i.attributes i.links) (sym is.size) (fits_any i.kind s t i.attributes i.links i.size (object_kind i.kind is.used ordinary) inode.kind));
@@ -145,7 +145,7 @@ same_object detail disk inodes settled None (Some o) found same stays is = absur
 same_object detail disk inodes settled (Some o) None found same stays is = absurd same
 same_object detail disk inodes settled (Some old) (Some new) found same stays is = record {
   kind = subst (λ (a : Status). IsObjectKind a.kind) (sym same.status) is.kind;
-  attributes = subst (λ (a : Status). AreAttributes a.attributes) (sym same.status) is.attributes;
+  attributes = subst (λ (a : Status). FitAttributes (has_attributes settled.layout) a.attributes) (sym same.status) is.attributes;
   fits = λ s.
       subst (λ (a : Status). FitsKind a.kind s a.attributes a.links new.file.size) (sym same.status)
       (subst (FitsKind old.status.kind s old.status.attributes old.status.links) (sym same.file.size) (is.fits s));

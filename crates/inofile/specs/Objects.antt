@@ -2,11 +2,11 @@
 use Rattle.std.specs.Prelude.{ℕ, ◌≡◌, ◌≤◌, List, Option, Some, None}
 use Rattle.layout.specs.Inode.{FitsKind}
 use Rattle.layout.specs.Limits.{Sizes}
-use Rattle.layout.specs.Trees.{level_of}
+use Rattle.layout.specs.Trees.{has_attributes, level_of}
 use Rattle.layout.specs.declared.inode.Inode.{Inode}
 use Rattle.layout.specs.declared.kind.Kind.{Kind}
 use Rattle.layout.specs.declared.kind.Kind.TheVariants as kinds
-use Rattle.model.specs.Attributes.{AreAttributes}
+use Rattle.model.specs.Attributes.{FitAttributes}
 use Rattle.model.specs.Volumes.{Node}
 use Rattle.blocktree.specs.Places.{block_count, depth_of}
 use Rattle.blocktree.specs.Trees.{IsChanged}
@@ -40,7 +40,7 @@ IsObjectKind kinds.BlockMap = ⊥
 -- the inode that is settled under its number, and what is known of a directory's blocks is so.
 pub record IsObjectIn (detail : Detail) (disk : ℕ → List ℕ) (inodes : ℕ) (settled : Inode) (o : Object) (found : Option Node) : Type 0 where
   pub kind : IsObjectKind o.status.kind
-  pub attributes : AreAttributes o.status.attributes
+  pub attributes : FitAttributes (has_attributes settled.layout) o.status.attributes
   pub fits : (s : Sizes)
       → FitsKind o.status.kind s o.status.attributes o.status.links o.file.size
   pub stands : StandsForIn detail inodes (content_of_object disk o) found

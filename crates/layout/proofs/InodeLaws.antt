@@ -5,8 +5,8 @@ use Rattle.std.proofs.lemmas.Bool.Decides.{nat_tests}
 use Rattle.std.proofs.lemmas.Bool.{eqb-true, le-leb, lt-leb}
 use Rattle.std.proofs.lemmas.List.{length-append, length-drop, drop_at}
 use Rattle.std.proofs.lemmas.List.Elements.{All-weaker}
-use Rattle.model.specs.Attributes.{new_attributes}
 use Rattle.model.specs.declared.attributes.Attributes.{Attributes}
+use Rattle.layout.specs.Attributes.{attribute_fields, attributes_from, others_told}
 use Rattle.layout.specs.Bytes.{zeros, IsBytes}
 use Rattle.layout.specs.Limits.{Sizes, AreSizes}
 use Rattle.layout.specs.Pointer.{PointsBelow, pointers_bytes, pointers_in}
@@ -23,8 +23,9 @@ use Rattle.layout.specs.declared.inode.Body.TheVariants.{Inline, Pointers}
 use Rattle.layout.specs.declared.inode.Inode.{Inode}
 use Rattle.layout.specs.declared.pointer.Pointer.{Pointer}
 use Rattle.layout.specs.declared.pointer.Pointer.TheVariants.{Hole, Block}
+use Rattle.layout.proofs.AttributeLaws.{attributes_again, attributes_exact, others_again, others_fit}
 use Rattle.layout.proofs.NumberLaws.{length-little}
-use Rattle.layout.proofs.Formats.{bind_some, some_is, if_then, tried, IsBytes-behind, zeros_are, is_zero-zeros, IsExact, num_exact, ranged_exact, part_exact, blank_exact, then_exact, whole_takes, whole_again}
+use Rattle.layout.proofs.Formats.{bind_some, some_is, if_then, tried, IsBytes-behind, zeros_are, is_zero-zeros, IsExact, num_exact, ranged_exact, part_exact, then_exact, whole_takes, whole_again}
 use Rattle.layout.proofs.WordLaws.{pointers_spelled, pointers_again, length-pointers_bytes}
 use Rattle.layout.proofs.ZeroLaws.{length-zeros}
 
@@ -75,7 +76,7 @@ head_exact : IsExact inode_head
 head_exact = then_exact (num_exact 2) (then_exact (ranged_exact 2 0 4095 (omega arith)) (then_exact (num_exact 4) (then_exact (num_exact 8) (num_exact 1))))
 
 inode_exact : IsExact inode_fields
-inode_exact = then_exact head_exact (then_exact (blank_exact 47) (part_exact 128))
+inode_exact = then_exact head_exact (then_exact attributes_exact (part_exact 128))
 
 kind_takes : (code : ℕ) (kind : Kind) → kind_of code ≡ Some kind → code ≡ kind_code kind
 unfolding kind_of
@@ -108,12 +109,13 @@ inode_takes layout bytes i fits e =
     let all = subst (λ (r : List ℕ). (i : ℕ) → get_or r i 0 < 256) t.0 fits in
     let k = bind_some (kind_of head.0) _ i w.2 in
     let b = bind_some (body_in size last) _ i k.2 in
-    let g = if_then (eqb head.1.1.1.1 (level_of layout size)) (Some (record { layout = layout; kind = k.0; attributes = new_attributes head.1.0; links = head.1.1.0; size = size; body = b.0 })) i b.2 in
+    let g = if_then (eqb head.1.1.1.1 (level_of layout size)) (Some (record { layout = layout; kind = k.0; attributes = attributes_from head.1.0 w.0.1.0; links = head.1.1.0; size = size; body = b.0 })) i b.2 in
     let code = kind_takes head.0 k.0 k.1 in
     let level : head.1.1.1.1 ≡ level_of layout size = eqb-true _ _ g.0 in
-    let body = body_takes size last b.0 t.1.1.1 (IsBytes-behind (zeros 47) last (IsBytes-behind (inode_head.text head) (zeros 47 ++ last) all)) b.1 in
+    let body = body_takes size last b.0 t.1.1.1 (IsBytes-behind (attribute_fields.text w.0.1.0) last (IsBytes-behind (inode_head.text head) (attribute_fields.text w.0.1.0 ++ last) all)) b.1 in
+    let others = sym (others_again head.1.0 w.0.1.0 t.1.1.0) in
     let is = some_is _ i g.1 in
-    (t.0 ∙ (λ j. inode_fields.text ((code j, (head.1.0, (head.1.1.0, (size, level j)))), (tt, body j))) ∙ ap inode_bytes is, ap (λ (x : Inode). x.layout) (sym is))
+    (t.0 ∙ (λ j. inode_fields.text ((code j, (head.1.0, (head.1.1.0, (size, level j)))), (others j, body j))) ∙ ap inode_bytes is, ap (λ (x : Inode). x.layout) (sym is))
 
 -- ---- what is spelled so is read
 
@@ -177,19 +179,19 @@ head_fits s i fits =
     let code : kind_code i.kind < 256 ^ 2 = omega (arith, kind_small i.kind) in
     let links : i.links < 256 ^ 4 = omega (arith, links_small i.kind s i.attributes i.links i.size fits.kind) in
     let size : i.size < 256 ^ 8 = omega (arith, fits.size, greatest_most i.layout) in
-    (code, ((omega arith, fits.attributes.mode), (links, (size, level_small i.layout i.size))))
+    (code, ((omega arith, fits.attributes.limits.mode), (links, (size, level_small i.layout i.size))))
 
 pub head_again : (s : Sizes) (i : Inode) → IsInode s i → kind_and_links_in (inode_bytes i) ≡ Some (i.kind, i.links)
 unfolding kind_and_links_in
-head_again s i fits = rw (head_exact.again (head_of i) (zeros 47 ++ body_bytes i.body) (head_fits s i fits), kind_again i.kind) refl
+head_again s i fits = rw (head_exact.again (head_of i) (attribute_fields.text (others_told i.attributes) ++ body_bytes i.body) (head_fits s i fits), kind_again i.kind) refl
 
 pub inode_again : (i : Inode) → IsSomeInode i → inode_in i.layout (inode_bytes i) ≡ Some i
 unfolding inode_in inode_of
 inode_again i some =
     let fits = some.fits in
     let same : eqb (level_of i.layout i.size) (level_of i.layout i.size) ≡ true = eq-eqb (level_of i.layout i.size) (level_of i.layout i.size) refl in
-    let read = whole_again inode_exact (head_of i, (tt, body_bytes i.body)) (head_fits some.sizes i fits, (tt, length-body i.layout i.body some.sizes.blocks i.size fits.body)) in
-    rw (read, kind_again i.kind, body_again i.layout i.body some.sizes.blocks i.size some.are_sizes.most_blocks fits.body, same) refl
+    let read = whole_again inode_exact (head_of i, (others_told i.attributes, body_bytes i.body)) (head_fits some.sizes i fits, (others_fit i.attributes fits.attributes.limits, length-body i.layout i.body some.sizes.blocks i.size fits.body)) in
+    rw (read, attributes_again i.attributes fits.attributes.limits, kind_again i.kind, body_again i.layout i.body some.sizes.blocks i.size some.are_sizes.most_blocks fits.body, same) refl
 
 -- the same where the layout is told
 pub inode_read : (layout : Layout) (i : Inode) → IsSomeInode i → i.layout ≡ layout → inode_in layout (inode_bytes i) ≡ Some i

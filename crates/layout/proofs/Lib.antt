@@ -16,6 +16,7 @@ pub mod FieldLaws
 pub mod NodeLaws
 pub mod InodeLaws
 pub mod RootLaws
+pub mod AttributeLaws
 pub mod EntryLaws
 pub mod SnapshotLaws
 pub mod OpenLaws

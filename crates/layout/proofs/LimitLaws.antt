@@ -1,5 +1,5 @@
 -- The limits of an image are such as a file system can have.
-use Rattle.std.proofs.Common.{ℕ, ◌≤◌, arith}
+use Rattle.std.proofs.Common.{◌≤◌, arith}
 use Rattle.model.specs.Limits.{AreLimits}
 use Rattle.layout.specs.Limits.{Sizes}
 use Rattle.layout.specs.StateLimits.{limits_of}

@@ -1,13 +1,14 @@
 -- The inode: 192 bytes.
 use Rattle.std.specs.Prelude.{ℕ, zero, suc, ◌≡◌, ◌-◌, ◌*◌, ◌%◌, ◌<◌, ◌≤◌, List, ◌++◌, length, drop, All}
 use Rattle.std.specs.Int.{div_ceil}
-use Rattle.model.specs.Attributes.{AreAttributes, no_attributes}
+use Rattle.model.specs.Attributes.{FitAttributes, no_attributes}
 use Rattle.model.specs.declared.attributes.Attributes.{Attributes}
 use Rattle.model.specs.declared.limits.TheConstants.{LINK_MODE}
+use Rattle.layout.specs.Attributes.{Others, attribute_fields, others_told}
 use Rattle.layout.specs.Bytes.{zeros}
-use Rattle.layout.specs.Format.{Format, num, part, blank, mode_bits, ◌▸◌}
+use Rattle.layout.specs.Format.{Format, num, part, mode_bits, ◌▸◌}
 use Rattle.layout.specs.Limits.{Sizes, AreSizes}
-use Rattle.layout.specs.Trees.{fan_out, greatest_size, level_of}
+use Rattle.layout.specs.Trees.{fan_out, greatest_size, has_attributes, level_of}
 use Rattle.layout.specs.Pointer.{PointsBelow, pointers_bytes}
 use Rattle.layout.specs.declared.TheConstants.{BLOCK_BYTES, BODY_POINTERS, INLINE_BYTES, INODES_PER_BLOCK}
 use Rattle.layout.specs.declared.limits.TheConstants.{FILE_NAMES, PATH_BYTES}
@@ -37,14 +38,14 @@ body_bytes (Pointers pointers) = pointers_bytes pointers ++ zeros 64
 abbrev pub inode_head : Format (ℕ × (ℕ × (ℕ × (ℕ × ℕ))))
 inode_head = num 2 ▸ mode_bits ▸ num 4 ▸ num 8 ▸ num 1
 
--- these, zeros and the body
-abbrev pub inode_fields : Format ((ℕ × (ℕ × (ℕ × (ℕ × ℕ)))) × (Unit {0} × List ℕ))
-inode_fields = inode_head ▸ blank 47 ▸ part INLINE_BYTES
+-- these, what is told beside them, and the body
+abbrev pub inode_fields : Format ((ℕ × (ℕ × (ℕ × (ℕ × ℕ)))) × (Others × List ℕ))
+inode_fields = inode_head ▸ attribute_fields ▸ part INLINE_BYTES
 
 -- the one spelling of each inode
 abbrev pub inode_bytes : Inode → List ℕ
 inode_bytes i =
-    inode_fields.text ((kind_code i.kind, (i.attributes.mode, (i.links, (i.size, level_of i.layout i.size)))), (tt, body_bytes i.body))
+    inode_fields.text ((kind_code i.kind, (i.attributes.mode, (i.links, (i.size, level_of i.layout i.size)))), (others_told i.attributes, body_bytes i.body))
 
 -- attributes, links and size by the kind, in an image of these sizes
 abbrev pub FitsKind : Kind → Sizes → Attributes → ℕ → ℕ → Type 0
@@ -86,7 +87,7 @@ FitsBody layout (Pointers pointers) blocks size = FitsPointers layout pointers b
 -- an inode of an image of these sizes
 pub record IsInode (s : Sizes) (i : Inode) : Type 0 where
   pub layout : i.layout ≡ s.layout
-  pub attributes : AreAttributes i.attributes
+  pub attributes : FitAttributes (has_attributes i.layout) i.attributes
   pub size : i.size ≤ greatest_size i.layout
   pub kind : FitsKind i.kind s i.attributes i.links i.size
   pub body : FitsBody i.layout i.body s.blocks i.size

@@ -1,8 +1,8 @@
 -- Reading an inode, before its limits are looked at.
 use Rattle.std.specs.Prelude.{ℕ, ◌+◌, ◌*◌, ◌/◌, min, List, drop, Option, Some, None, nat_le, ◌==◌, if◌then◌else◌}
-use Rattle.model.specs.Attributes.{new_attributes}
 use Rattle.model.specs.declared.attributes.Attributes.{Attributes}
 use Rattle.layout.specs.Reading.{◌>>=◌, is_zero, all_of}
+use Rattle.layout.specs.Attributes.{attributes_from}
 use Rattle.layout.specs.Inode.{inode_fields, inode_head}
 use Rattle.layout.specs.Limits.{Sizes}
 use Rattle.layout.specs.Pointer.{pointers_in}
@@ -42,7 +42,8 @@ inode_of layout code attributes links size level bytes =
 
 unfoldable pub inode_in : Layout → List ℕ → Option Inode
 inode_in layout bytes =
-    all_of inode_fields.at bytes >>= λ v. inode_of layout v.0.0 (new_attributes v.0.1.0) v.0.1.1.0 v.0.1.1.1.0 v.0.1.1.1.1 v.1.1
+    all_of inode_fields.at bytes >>= λ v.
+    inode_of layout v.0.0 (attributes_from v.0.1.0 v.1.0) v.0.1.1.0 v.0.1.1.1.0 v.0.1.1.1.1 v.1.1
 
 -- the kind and the links in the head of an inode
 unfoldable pub kind_and_links_in : List ℕ → Option (Kind × ℕ)

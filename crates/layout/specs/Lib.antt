@@ -1,3 +1,4 @@
+pub mod Attributes
 pub mod Bytes
 pub mod Format
 pub mod Gates

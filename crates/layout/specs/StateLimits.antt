@@ -1,9 +1,9 @@
 -- What a file system may hold that stands in these formats.
-use Rattle.std.specs.Prelude.{ℕ, ◌+◌, ◌/◌, ◌==◌, if◌then◌else◌, false}
+use Rattle.std.specs.Prelude.{ℕ, ◌+◌, ◌/◌}
 use Rattle.model.specs.declared.costs.Costs.{Costs}
 use Rattle.model.specs.declared.limits.Limits.{Limits}
 use Rattle.layout.specs.Limits.{Sizes}
-use Rattle.layout.specs.Trees.{greatest_size}
+use Rattle.layout.specs.Trees.{greatest_size, has_attributes}
 use Rattle.layout.specs.Version.{greatest_under, snapshot_slots}
 use Rattle.layout.specs.declared.TheConstants.{SINGLE_BYTES}
 use Rattle.layout.specs.declared.geometry.TheConstants.{LEAST_BLOCKS}
@@ -38,7 +38,7 @@ limits_of s = record {
   path_bytes = PATH_BYTES;
   snapshots = SNAPSHOT_SLOTS;
   least_blocks = LEAST_BLOCKS;
-  has_attributes = false;
+  has_attributes = has_attributes s.layout;
   costs = costs_of s.blocks;
 }
 

@@ -1,6 +1,6 @@
--- What differs from one layout of trees to the other: how many pointers an indirect block has, and
--- what follows from it.
-use Rattle.std.specs.Prelude.{ℕ, nat_le, if◌then◌else◌}
+-- What differs from one layout of trees to the other: how many pointers an indirect block has and
+-- what follows from it, and what an inode tells.
+use Rattle.std.specs.Prelude.{ℕ, Bool, false, nat_le, if◌then◌else◌, true}
 use Rattle.layout.specs.declared.TheConstants.{DIRECT_BYTES, INLINE_BYTES}
 use Rattle.layout.specs.declared.trees.Layout.{Layout}
 use Rattle.layout.specs.declared.trees.Layout.TheVariants.{Plain, Summed}
@@ -9,6 +9,11 @@ use Rattle.layout.specs.declared.trees.Layout.TheVariants.{Plain, Summed}
 abbrev pub fan_out : Layout → ℕ
 fan_out Plain = 1024
 fan_out Summed = 512
+
+-- whether objects have owners, times and a generation
+abbrev pub has_attributes : Layout → Bool
+has_attributes Plain = false
+has_attributes Summed = true
 
 -- the greatest size of a file with one indirect block on the way to each of its blocks, in bytes
 abbrev pub single_bytes : Layout → ℕ

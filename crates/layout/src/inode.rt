@@ -11,16 +11,17 @@ ghost use Rattle.layout.specs.InodeReading.{likely_blocks, likely_inodes, likely
 ghost use Rattle.layout.specs.declared.inode.Inode.{Inode};
 ghost use Rattle.layout.specs.declared.trees.Layout.TheVariants.{Summed};
 
+use crate::attributes::{attributes_at, put_attributes};
 use crate::fields::is_zero;
 use crate::geometry::{LEAST_HALF, MOST_BLOCKS, MOST_INODES};
 use crate::pointer::{are_holes, pointers_fit, put_pointers, read_pointers};
-use crate::reading::{mode_at, part_at, u8_at, u16_at, u32_at, u64_at, zeros_at};
+use crate::reading::{mode_at, part_at, u8_at, u16_at, u32_at, u64_at};
 use crate::writing::{put_bytes, put_u8, put_u16, put_u32, put_u64, put_zeros};
 use crate::{
     BODY_POINTERS, FILE_NAMES, Geometry, INLINE_BYTES, INODE_BYTES, Kind, Layout, PATH_BYTES,
     Pointer,
 };
-use model::{Attributes, LINK_MODE, Mode};
+use model::{Attributes, LINK_MODE};
 
 /// The bytes of a small object, or where a larger one's blocks are.
 #[derive(Clone, Copy, Debug)]
@@ -90,7 +91,7 @@ impl Inode {
         put_u32(out, at + 4, self.links);
         put_u64(out, at + 8, self.size);
         put_u8(out, at + 16, self.layout.level_of(self.size));
-        put_zeros(out, at + 17, 47);
+        put_attributes(out, at + 17, self.attributes);
         put_body(out, at + 64, &self.body);
     }
 
@@ -100,6 +101,7 @@ impl Inode {
     {
         self.attributes.fit();
         self.layout == geometry.layout()
+            && (self.layout.has_attributes() || self.attributes.have_only_mode())
             && self.size <= self.layout.greatest_size()
             && kind_fits(self, geometry)
             && body_fits(self.layout, &self.body, geometry.blocks(), self.size)
@@ -166,21 +168,14 @@ pub(crate) fn read_fields(bytes: &[u8], layout: Layout) -> Option<Inode>
     let (links, bytes) = u32_at(bytes)?;
     let (size, bytes) = u64_at(bytes)?;
     let (level, bytes) = u8_at(bytes)?;
-    let bytes = zeros_at(bytes, 47)?;
+    let Some((attributes, bytes)) = attributes_at(bytes, mode) else {
+        return None;
+    };
     let (body, bytes) = part_at(bytes, INLINE_BYTES)?;
     if !bytes.is_empty() {
         return None;
     }
-    let mode = Mode::new(mode).unwrap();
-    made_inode(
-        layout,
-        kind,
-        Attributes::new(mode),
-        links,
-        size,
-        level,
-        body,
-    )
+    made_inode(layout, kind, attributes, links, size, level, body)
 }
 
 // The kind and the links in these bytes, before the limits are looked at.

@@ -4,6 +4,7 @@
 //! other (`reading.rt`, `writing.rt`), are for other formats of the same kind too.
 #![tactic(auto)]
 
+mod attributes;
 mod directory;
 mod entry;
 mod fields;

@@ -70,7 +70,7 @@ impl Geometry {
             path_bytes: PATH_BYTES,
             snapshots: SNAPSHOT_SLOTS as u32,
             least_blocks: LEAST_BLOCKS,
-            has_attributes: false,
+            has_attributes: self.layout().has_attributes(),
             costs: costs_of(self.blocks()),
         }
     }

@@ -1,14 +1,14 @@
 //! How the blocks of a file hang from its inode: what differs from one layout to the other.
 
 ghost use Rattle.std.specs.Prelude.{◌≡◌, ◌≤◌};
-ghost use Rattle.layout.specs.Trees.{double_bytes, fan_out, greatest_size, level_of, single_bytes};
+ghost use Rattle.layout.specs.Trees.{double_bytes, fan_out, greatest_size, has_attributes, level_of, single_bytes};
 
 use crate::{DIRECT_BYTES, INLINE_BYTES};
 
 /// The layout of an image's trees of blocks. Its version says which it is.
 #[derive(Clone, Copy, Debug, PartialEq, Eq)]
 pub enum Layout {
-    /// 1,024 pointers in an indirect block.
+    /// 1,024 pointers in an indirect block. Of attributes, inodes tell the mode alone.
     Plain,
     /// 512 pointers in an indirect block, and behind them room for the sums of what they lead to.
     Summed,
@@ -24,6 +24,16 @@ impl Layout {
         match self {
             Layout::Plain => 1024,
             Layout::Summed => 512,
+        }
+    }
+
+    /// Whether its inodes tell owners, times and a generation.
+    pub fn has_attributes(self) -> bool
+        ensures { result ≡ has_attributes self }
+    {
+        match self {
+            Layout::Plain => false,
+            Layout::Summed => true,
         }
     }
 

@@ -3,8 +3,9 @@ use Rattle.std.proofs.Common.{◌≡◌, ◌⊎◌, inl, inr, ◌↔◌, ◌≤�
 use Rattle.std.proofs.lemmas.Bool.{cases_Bool}
 use Rattle.std.specs.Prelude.{Err, IsErrOf, Ok, Result}
 use Rattle.std.specs.Int.{bit_at}
-use Rattle.model.specs.Attributes.{AreAttributes, no_attributes}
+use Rattle.model.specs.Attributes.{FitAttributes, no_attributes}
 use Rattle.model.proofs.AttributeLaws.{new_fit}
+use Rattle.layout.specs.Trees.{has_attributes}
 use Rattle.layout.specs.Inode.{FitsKind}
 use Rattle.layout.specs.Limits.{Sizes}
 use Rattle.layout.specs.Places.{Blocks}
@@ -53,7 +54,7 @@ own_change s d o kind blocks sound none_named based ends status fits = record {
   once = λ m i k j b here there. absurd (none_named b (record { height = m; index = i; is = here }));
   used = λ b names free. none_named b names;
   ends = ends;
-  attributes = subst (λ (a : Status). AreAttributes a.attributes) (sym status) (new_fit 0 (omega arith));
+  attributes = subst (λ (a : Status). FitAttributes (has_attributes s.layout) a.attributes) (sym status) (new_fit (has_attributes s.layout) 0 (omega arith));
   kind = subst (λ (a : Status). FitsKind a.kind s a.attributes a.links o.file.size) (sym status) fits;
 }
 

@@ -11,7 +11,7 @@ use Rattle.layout.specs.Limits.{AreSizes, Sizes}
 use Rattle.layout.specs.Maps.{map_entry}
 use Rattle.layout.specs.Places.{Blocks, follow, place, pointed}
 use Rattle.layout.specs.Pointer.{PointsBelow}
-use Rattle.layout.specs.Trees.{fan_out, level_of}
+use Rattle.layout.specs.Trees.{fan_out, has_attributes, level_of}
 use Rattle.layout.specs.declared.trees.Layout.{Layout}
 use Rattle.layout.specs.declared.trees.Layout.TheVariants.{Plain}
 use Rattle.layout.specs.declared.inode.Body.TheVariants.{Pointers}
@@ -69,7 +69,7 @@ empty_block s i = ap (pointed nothing) (no_node s 0 i)
 no_map_fits : (s : Sizes) → AreSizes s → IsInode s (no_map s)
 no_map_fits s are = record {
   layout = refl;
-  attributes = new_fit 0 (omega arith);
+  attributes = new_fit (has_attributes s.layout) 0 (omega arith);
   size = omega (arith, are.most_blocks, greatest_least s.layout);
   kind = (refl, refl, refl);
   body = (

@@ -1,11 +1,68 @@
--- Attributes that keep to their limits.
-use Rattle.std.proofs.Common.{ℕ, ◌≤◌}
-use Rattle.model.specs.Attributes.{AreAttributes, new_attributes, set_mode}
+-- Attributes that keep to their limits, and whether two are the same.
+use Rattle.std.proofs.Common.{◌≡◌, ◌≢◌, ◌⊎◌, inl, inr, ℕ, ◌≤◌, Bool, refl, ap, arith, lit≤}
+use Rattle.std.specs.Prelude.{ℤ, pos, negsuc}
+use borrow.Author.Differences.{fits_in}
+use Rattle.model.specs.Attributes.{AreAttributes, FitAttributes, IsTime, epoch, new_attributes, set_mode}
 use Rattle.model.specs.declared.attributes.Attributes.{Attributes}
+use Rattle.model.specs.declared.time.Time.{Time}
 use Rattle.model.specs.declared.limits.TheConstants.{MODE_BITS}
+use Rattle.model.proofs.CountLemmas.{number_apart}
 
-pub new_fit : (mode : ℕ) → mode ≤ MODE_BITS → AreAttributes (new_attributes mode)
-new_fit mode few = record { mode = few }
+epoch_is : IsTime epoch
+epoch_is = record { seconds = omega (arith, fits_in); nanoseconds = omega arith }
 
-pub set_fit : (mode : ℕ) (a : Attributes) → mode ≤ MODE_BITS → AreAttributes a → AreAttributes (set_mode mode a)
-set_fit mode a few good = record { mode = few }
+pub new_are : (mode : ℕ) → mode ≤ MODE_BITS → AreAttributes (new_attributes mode)
+new_are mode few = record { mode = few; owner = omega arith; group = omega arith; modified = epoch_is; changed = epoch_is; generation = omega arith }
+
+pub new_fit : (has_attributes : Bool) (mode : ℕ) → mode ≤ MODE_BITS → FitAttributes has_attributes (new_attributes mode)
+new_fit has_attributes mode few = record { limits = new_are mode few; only_mode = λ none. refl }
+
+pub set_fit : (has_attributes : Bool) (mode : ℕ) (a : Attributes) → mode ≤ MODE_BITS → FitAttributes has_attributes a → FitAttributes has_attributes (set_mode mode a)
+set_fit has_attributes mode a few good = record {
+  limits = record {
+    mode = few;
+    owner = good.limits.owner;
+    group = good.limits.group;
+    modified = good.limits.modified;
+    changed = good.limits.changed;
+    generation = good.limits.generation;
+  };
+  only_mode = λ none. ap (set_mode mode) (good.only_mode none);
+}
+
+-- two facts that hold or not do so together or not
+both_or_not : {P Q : Type 0} → P ⊎ (¬ P) → Q ⊎ (¬ Q) → (P × Q) ⊎ (¬ (P × Q))
+both_or_not (inl p) (inl q) = inl (p, q)
+both_or_not (inl p) (inr not_q) = inr (λ both. not_q both.1)
+both_or_not (inr not_p) q = inr (λ both. not_p both.0)
+
+integer_apart : (x y : ℤ) → (x ≡ y) ⊎ (x ≢ y)
+integer_apart (pos m) (pos n) = elim (number_apart m n) [ inl e ↦ inl (ap pos e) | inr e ↦ inr (λ same. e (cc)) ]
+integer_apart (negsuc m) (negsuc n) = elim (number_apart m n) [ inl e ↦ inl (ap negsuc e) | inr e ↦ inr (λ same. e (cc)) ]
+integer_apart (pos m) (negsuc n) = inr (λ e. cc)
+integer_apart (negsuc m) (pos n) = inr (λ e. cc)
+
+time_apart : (x y : Time) → (x ≡ y) ⊎ (x ≢ y)
+time_apart x y =
+    elim (both_or_not (integer_apart x.seconds y.seconds) (number_apart x.nanoseconds y.nanoseconds)) [
+      | inl same ↦ inl (λ i. record { seconds = same.0 i; nanoseconds = same.1 i })
+      | inr other ↦ inr (λ e. other (ap (λ (t : Time). t.seconds) e, ap (λ (t : Time). t.nanoseconds) e))
+    ]
+
+pub attributes_apart : (x y : Attributes) → (x ≡ y) ⊎ (x ≢ y)
+attributes_apart x y =
+    elim (both_or_not (both_or_not (number_apart x.mode y.mode) (both_or_not (number_apart x.owner y.owner) (number_apart x.group y.group)))
+    (both_or_not (both_or_not (time_apart x.modified y.modified) (time_apart x.changed y.changed)) (number_apart x.generation y.generation))) [
+      | inl same ↦ inl (λ i. record {
+        mode = same.0.0 i;
+        owner = same.0.1.0 i;
+        group = same.0.1.1 i;
+        modified = same.1.0.0 i;
+        changed = same.1.0.1 i;
+        generation = same.1.1 i;
+      })
+      | inr other ↦ inr (λ e. other (
+        (ap (λ (a : Attributes). a.mode) e, (ap (λ (a : Attributes). a.owner) e, ap (λ (a : Attributes). a.group) e)),
+        ((ap (λ (a : Attributes). a.modified) e, ap (λ (a : Attributes). a.changed) e), ap (λ (a : Attributes). a.generation) e),
+      ))
+    ]

@@ -6,13 +6,14 @@ use Rattle.std.proofs.lemmas.Bool.{cases_Bool, cond-true, cond-false, eqb-false,
 use Rattle.std.proofs.lemmas.List.Elements.{All-nil, All-contains, All-from_recursion}
 use Rattle.std.proofs.Math.Nat.{min-le_right}
 use Rattle.model.specs.declared.limits.Limits.{Limits}
-use Rattle.model.specs.declared.limits.TheConstants.{MODE_BITS, OPEN_FILES}
+use Rattle.model.specs.declared.limits.TheConstants.{LINK_MODE, MODE_BITS, OPEN_FILES}
+use Rattle.model.specs.Attributes.{new_attributes}
 use Rattle.model.specs.declared.errno.Errno.TheVariants.{ENOENT, ENOTDIR, EISDIR, EEXIST, EINVAL, EPERM, EBUSY, ENOTEMPTY, EMLINK, EMFILE}
 use Rattle.model.specs.declared.reply.Reply.TheVariants as reply
 use Rattle.model.specs.declared.command.Flags.{Flags}
 use Rattle.model.specs.Paths.{Name, Path, IsLinkText, Tests, text_tests_then, text_tests, new_text_tests, is_empty, is_root_text, is_dot, is_dot_dot, first_refusal, is_number_alone, last_part}
 use Rattle.model.specs.Trees.{Tree, Object, directory, symlink, file, is_directory, Description, HasNumber, IsTree, StandsAtPath, number_of_object}
-use Rattle.model.specs.Edits.{with_object, without_object, with_mode, with_bytes, with_descriptor, with_directory, with_file}
+use Rattle.model.specs.Edits.{with_object, without_object, with_attributes, with_bytes, with_descriptor, with_directory, with_file, with_symlink}
 use Rattle.model.specs.Resolution.{Resolution, named}
 use Rattle.model.specs.Room.{logs, adds_name, removes_name, nothing, Need}
 use Rattle.model.specs.Outcomes.{Outcome, refuses, goes_along, IsListing, IsFresh, lowest_free}
@@ -74,13 +75,13 @@ module _ (limits : Limits) (t : Tree) (tree : IsTree limits t) where
   pub stays_mkdir : (path : List ℕ) (mode : ℕ) → mode ≤ MODE_BITS → LeavesTree limits (changing.makes_directory limits t path mode)
   stays_mkdir path mode few =
       stays_creates path (λ p n. with_directory p n mode) (λ p name n names misses listing room fresh.
-      placed_is_tree limits t tree p name (directory n) t.bytes (with_mode n mode t).mode misses.directory misses.free misses.good (directory_joins limits t tree n fresh.low fresh.high fresh.free mode few) names listing room)
+      placed_is_tree limits t tree p name (directory n) t.bytes (with_attributes n (new_attributes mode) t).attributes misses.directory misses.free misses.good (directory_joins limits t tree n fresh.low fresh.high fresh.free mode few) names listing room)
 
   pub stays_symlink : (text path : List ℕ) → LeavesTree limits (changing.makes_symlink limits t text path)
   stays_symlink text path =
-      stays_passed limits t tree (changing.link_text_tests limits text) (changing.creates limits t path (λ p n. with_object p (symlink n text))) (λ pass.
-      stays_creates path (λ p n. with_object p (symlink n text)) (λ p name n names misses listing room fresh.
-      placed_is_tree limits t tree p name (symlink n text) t.bytes t.mode misses.directory misses.free misses.good (symlink_joins limits t tree n fresh.low fresh.high fresh.free text (link_text limits text pass)) names listing room))
+      stays_passed limits t tree (changing.link_text_tests limits text) (changing.creates limits t path (λ p n. with_symlink p n text)) (λ pass.
+      stays_creates path (λ p n. with_symlink p n text) (λ p name n names misses listing room fresh.
+      placed_is_tree limits t tree p name (symlink n text) t.bytes (with_attributes n (new_attributes LINK_MODE) t).attributes misses.directory misses.free misses.good (symlink_joins limits t tree n fresh.low fresh.high fresh.free text (link_text limits text pass)) names listing room))
 
   -- a file gets one more name
   stays_linked : (p : Path) (o : Object) (path : List ℕ) → t.objects p ≡ Some o → first_refusal (new_text_tests limits path) ≡ None → LeavesTree limits (changing.links_object limits t o path)
@@ -92,7 +93,7 @@ module _ (limits : Limits) (t : Tree) (tree : IsTree limits t) where
       stays_passed limits t tree ((nat_le limits.file_names count, EMLINK) ∷ []) _ (λ pass.
       stays_place limits t tree q _ (λ names listing room.
       stays_changed limits t tree reply.Done (with_object (q ++ name ∷ []) (file n) t) (logs adds_name)
-      (placed_is_tree limits t tree q name (file n) t.bytes t.mode misses.directory misses.free misses.good (link_joins limits t tree p n count (at_p ∙ ap (λ x. Some x) kind) counts (leb-false limits.file_names count pass.0)) names listing room))))))
+      (placed_is_tree limits t tree q name (file n) t.bytes t.attributes misses.directory misses.free misses.good (link_joins limits t tree p n count (at_p ∙ ap (λ x. Some x) kind) counts (leb-false limits.file_names count pass.0)) names listing room))))))
       (λ r alone has. absurd (not_alone limits path passed alone)))
 
   pub stays_link : (old path : List ℕ) → LeavesTree limits (changing.links limits t old path)
@@ -164,7 +165,7 @@ module _ (limits : Limits) (t : Tree) (tree : IsTree limits t) where
       let made : Tree = with_file (p ++ name ∷ []) n mode t in
       stays_opens_file tells n flags fd made (logs adds_name)
       (held_is_tree limits made
-      (placed_is_tree limits t tree p name (file n) (with_bytes n [] t).bytes (with_mode n mode t).mode misses.directory misses.free misses.good (file_joins limits t tree n fresh.low fresh.high fresh.free mode few) names listing room)
+      (placed_is_tree limits t tree p name (file n) (with_bytes n [] t).bytes (with_attributes n (new_attributes mode) t).attributes misses.directory misses.free misses.good (file_joins limits t tree n fresh.low fresh.high fresh.free mode few) names listing room)
       fd (descriptors.described_by n flags) below (inl (p ++ name ∷ [], put-here (p ++ name ∷ []) (Some (file n)) t.objects)) (lit≤ tt) (λ g at_g. none_some (sym closed ∙ at_g))))))
 
   pub stays_open : (tells : Bool) (below : ℕ) (path : List ℕ) (flags : Flags) (mode : ℕ) → mode ≤ MODE_BITS → LeavesTree limits (descriptors.opens tells below limits t path flags mode)

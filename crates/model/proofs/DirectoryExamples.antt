@@ -7,13 +7,13 @@ use Rattle.model.specs.declared.reply.FileType.TheVariants as kind
 use Rattle.model.specs.declared.command.Access.TheVariants as access
 use Rattle.model.specs.declared.command.Flags.{Flags}
 use Rattle.model.specs.Paths.{Name, Path}
-use Rattle.model.specs.Trees.{Tree, Description, symlink, file, root_alone}
-use Rattle.model.specs.Edits.{with_object, without_object, with_directory, with_file, with_descriptor, moved}
+use Rattle.model.specs.Trees.{Tree, Description, file, root_alone}
+use Rattle.model.specs.Edits.{with_object, without_object, with_directory, with_file, with_symlink, with_descriptor, moved}
 use Rattle.model.specs.Room.{nothing, logs, adds_name, removes_name}
 use Rattle.model.specs.Reading.{stats, lists}
 use Rattle.model.specs.Changing.{makes_directory, makes_symlink, removes_directory, links, renames}
 use Rattle.model.specs.Descriptors.{opens, closes, stats_open}
-use Rattle.model.proofs.ToldLemmas.{Told, told_root, told_object, told_descriptor, told_directory, told_file, told_moved, moved_paths, told_dropped, dropped, listing_told, fresh_told, swept_told, links_told, used_below}
+use Rattle.model.proofs.ToldLemmas.{Told, told_root, told_object, told_descriptor, told_directory, told_file, told_symlink, told_moved, moved_paths, told_dropped, dropped, listing_told, fresh_told, swept_told, links_told, used_below}
 use Rattle.model.proofs.ExampleLimits.{limits}
 
 abbrev pub fresh : Tree
@@ -145,13 +145,13 @@ onto_what_isn't_empty : renames limits with_e false (codes "/e") (codes "/c") (r
 onto_what_isn't_empty = (codes "b" ∷ [], listing_told with_e_is at_c (codes "b" ∷ []) refl, (refl, refl, refl))
 
 abbrev with_l : Tree
-with_l = with_object at_l (symlink 7 (codes "c/../c/b")) with_e
+with_l = with_symlink at_l 7 (codes "c/../c/b") with_e
 
 makes_l : makes_symlink limits with_e (codes "c/../c/b") (codes "/l") reply.Done with_l (logs adds_name)
 makes_l = (codes "c" ∷ codes "e" ∷ [], listing_told with_e_is [] (codes "c" ∷ codes "e" ∷ []) refl, (Some 7, fresh_told with_e_is limits 3 (lit≤ tt) refl refl, (refl, refl, refl)))
 
-with_l_is : Told with_l (at_l ∷ at_e ∷ replaced_paths) [] (6 ∷ 6 ∷ 5 ∷ 4 ∷ 3 ∷ [])
-with_l_is = told_object with_e_is at_l (Some (symlink 7 (codes "c/../c/b")))
+with_l_is : Told with_l (at_l ∷ at_e ∷ replaced_paths) [] (7 ∷ 6 ∷ 6 ∷ 5 ∷ 4 ∷ 3 ∷ [])
+with_l_is = told_symlink with_e_is at_l 7 (codes "c/../c/b")
 
 abbrev without_b : Tree
 without_b = dropped 5 (without_object at_c_b with_l)

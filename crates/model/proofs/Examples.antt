@@ -13,6 +13,8 @@ use Rattle.model.specs.declared.command.PathCall.TheVariants as call
 use Rattle.model.specs.declared.command.Whence.TheVariants as whence
 use Rattle.model.specs.declared.command.Access.TheVariants as access
 use Rattle.model.specs.declared.command.Flags.{Flags}
+use Rattle.model.specs.declared.attributes.Attributes.{Attributes}
+use Rattle.model.specs.Attributes.{new_attributes}
 use Rattle.model.specs.Paths.{Name, Path, path_eq}
 use Rattle.model.specs.Trees.{Tree, Object, number_of_object, Description, IsUsed, directory, symlink, file, root_alone}
 use Rattle.model.specs.Edits.{resized, written, read_at, with_object, with_directory, with_file, with_bytes, with_descriptor, without_object, moved}
@@ -207,7 +209,7 @@ orphans = without_object (name_f ∷ []) tiny
 
 -- it was closed then
 abbrev closed : Tree
-closed = record (with_descriptor 0 None orphans) { bytes = λ n. None; mode = λ n. if n == 3 then Some 0o755 else None }
+closed = record (with_descriptor 0 None orphans) { bytes = λ n. None; attributes = λ n. if n == 3 then Some (new_attributes 0o755) else None }
 
 only_root : (p : Path) (o : Object) → orphans.objects p ≡ Some o → o ≡ directory 3
 only_root p o =
@@ -234,7 +236,7 @@ unlink_open = (
     kept = λ n used. (refl, refl);
     gone = λ n unused. (
       cond_both (n == 4) (Some []) None (λ (r : Option (List ℕ)). r ≡ None) (λ e. absurd (unused (subst (IsUsed orphans) (sym (eqb-true n 4 e)) file_used))) (λ e. refl),
-      cond_both (n == 4) (Some 0o644) _ (λ (r : Option ℕ). r ≡ None) (λ e. absurd (unused (subst (IsUsed orphans) (sym (eqb-true n 4 e)) file_used))) (λ e. cond_both (n == 3) (Some 0o755) None (λ (r : Option ℕ). r ≡ None) (λ f. absurd (unused (subst (IsUsed orphans) (sym (eqb-true n 3 f)) root_used))) (λ f. refl)),
+      cond_both (n == 4) (Some (new_attributes 0o644)) _ (λ (r : Option Attributes). r ≡ None) (λ e. absurd (unused (subst (IsUsed orphans) (sym (eqb-true n 4 e)) file_used))) (λ e. cond_both (n == 3) (Some (new_attributes 0o755)) None (λ (r : Option Attributes). r ≡ None) (λ f. absurd (unused (subst (IsUsed orphans) (sym (eqb-true n 3 f)) root_used))) (λ f. refl)),
     );
   },
   refl,
@@ -265,8 +267,8 @@ close_last = (
   record {
     objects = refl;
     descriptors = refl;
-    kept = λ n used. subst (λ k. (closed.bytes k ≡ orphans.bytes k) × (closed.mode k ≡ orphans.mode k)) (sym (closed_used n used)) (refl, refl);
-    gone = λ n unused. (refl, cond_both (n == 3) (Some 0o755) None (λ (r : Option ℕ). r ≡ None) (λ e. absurd (unused (subst (IsUsed (with_descriptor 0 None orphans)) (sym (eqb-true n 3 e)) (inl ([], directory 3, refl, refl))))) (λ e. refl));
+    kept = λ n used. subst (λ k. (closed.bytes k ≡ orphans.bytes k) × (closed.attributes k ≡ orphans.attributes k)) (sym (closed_used n used)) (refl, refl);
+    gone = λ n unused. (refl, cond_both (n == 3) (Some (new_attributes 0o755)) None (λ (r : Option Attributes). r ≡ None) (λ e. absurd (unused (subst (IsUsed (with_descriptor 0 None orphans)) (sym (eqb-true n 3 e)) (inl ([], directory 3, refl, refl))))) (λ e. refl));
   },
   refl,
 )

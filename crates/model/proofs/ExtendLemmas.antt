@@ -4,7 +4,9 @@ use Rattle.std.specs.Prelude.{[], length, unwrap_or, if◌then◌else◌, IsTrue
 use Rattle.std.proofs.Math.Path.{fun_ext}
 use Rattle.std.proofs.lemmas.Bool.{false≢true}
 use Rattle.model.specs.declared.limits.Limits.{Limits}
+use Rattle.model.specs.declared.attributes.Attributes.{Attributes}
 use Rattle.model.specs.declared.limits.TheConstants.{OPEN_FILES}
+use Rattle.model.specs.Attributes.{set_mode}
 use Rattle.model.specs.Counting.{Counts}
 use Rattle.model.specs.Paths.{Name}
 use Rattle.model.specs.Edits.{written, resized}
@@ -12,7 +14,7 @@ use Rattle.model.specs.Trees.{Description}
 use Rattle.model.specs.Volumes.{Node, directory_node, file_node, link_node, Volume, Entries, bytes_of_node, names_in, entries, with_node, set_name, with_entry, is_file_node, is_directory_node, is_orphan, with_name_less, with_name_more, released, is_open, swept_node, swept}
 use Rattle.model.specs.Laws.{ReplayFollows, ReplayEndsSame, ReplaysCostTheSame}
 use Rattle.model.specs.Room.{puts_bytes, changes_size}
-use Rattle.model.specs.Records.{Change, create, link, remove_name, rename, write, truncate, change_mode, set_file, node_of, with_file_bytes, with_node_mode, with_size, applied, IsBelow, TakesName, IsEmpty, is_vacant, CanReplace, Applies, without_orphans, Extends}
+use Rattle.model.specs.Records.{Change, create, link, remove_name, rename, write, truncate, change_mode, set_file, node_of, with_file_bytes, with_node_attributes, with_size, applied, IsBelow, TakesName, IsEmpty, is_vacant, CanReplace, Applies, without_orphans, Extends}
 use Rattle.model.proofs.OptionLaws.{some_or_none}
 
 -- what has no object has no names, whatever stands for it
@@ -215,12 +217,12 @@ bytes_vacant f (Some (file_node attributes zero bytes)) vacant = refl
 bytes_vacant f (Some (file_node attributes (suc links) bytes)) vacant = vacant
 bytes_vacant f (Some (link_node attributes text)) vacant = vacant
 
-mode_vacant : (bits : ℕ) (o : Option Node) → IsTrue (is_vacant o) → IsTrue (is_vacant (with_node_mode bits o))
-mode_vacant bits None vacant = refl
-mode_vacant bits (Some (directory_node attributes names)) vacant = vacant
-mode_vacant bits (Some (file_node attributes zero bytes)) vacant = refl
-mode_vacant bits (Some (file_node attributes (suc links) bytes)) vacant = vacant
-mode_vacant bits (Some (link_node attributes text)) vacant = vacant
+attributes_vacant : (f : Attributes → Attributes) (o : Option Node) → IsTrue (is_vacant o) → IsTrue (is_vacant (with_node_attributes f o))
+attributes_vacant f None vacant = refl
+attributes_vacant f (Some (directory_node attributes names)) vacant = vacant
+attributes_vacant f (Some (file_node attributes zero bytes)) vacant = refl
+attributes_vacant f (Some (file_node attributes (suc links) bytes)) vacant = vacant
+attributes_vacant f (Some (link_node attributes text)) vacant = vacant
 
 with_name : (v w : Volume) → Extends v w → (d : ℕ) (x : Name) (to : Option ℕ) → Extends (with_entry d x to v) (with_entry d x to w)
 with_name v w extends d x to = with_both v w extends d (set_name x to) refl (set_vacant x to)
@@ -251,9 +253,9 @@ applied_too v w extends limits (rename parent name new_parent new_name) can =
     new_parent new_name (entries v parent name) (entries w parent name) (same_names v w extends parent name)
 applied_too v w extends limits (write number offset bytes) can = with_both v w extends number (with_file_bytes (written offset bytes)) refl (bytes_vacant (written offset bytes))
 applied_too v w extends limits (truncate number size) can = with_both v w extends number (with_file_bytes (resized size)) refl (bytes_vacant (resized size))
-applied_too v w extends limits (change_mode number mode) can = with_both v w extends number (with_node_mode mode) refl (mode_vacant mode)
+applied_too v w extends limits (change_mode number mode) can = with_both v w extends number (with_node_attributes (set_mode mode)) refl (attributes_vacant (set_mode mode))
 applied_too v w extends limits (set_file number mode size) can =
-    with_both (with_size number size v) (with_size number size w) (with_both v w extends number (with_file_bytes (resized size)) refl (bytes_vacant (resized size))) number (with_node_mode mode) refl (mode_vacant mode)
+    with_both (with_size number size v) (with_size number size w) (with_both v w extends number (with_file_bytes (resized size)) refl (bytes_vacant (resized size))) number (with_node_attributes (set_mode mode)) refl (attributes_vacant (set_mode mode))
 
 pub extends_on : ReplayFollows
 extends_on limits v w table change extends can = (

@@ -9,7 +9,7 @@ use Rattle.model.specs.declared.attributes.Attributes.{Attributes}
 use Rattle.model.specs.Paths.{Name, Path, IsName, behind}
 use Rattle.model.specs.Trees.{Description}
 use Rattle.model.specs.Edits.{relocate, relocated, moved}
-use Rattle.model.specs.Volumes.{Node, directory_node, file_node, link_node, Volume, Entries, names_in, entries, enter, number_at, object_of, object_at, bytes_of_node, mode_of, tree_of, with_node, with_edge, set_name, with_entry, is_file_node, is_directory_node, IsGraph, with_name_less, released, renamed, HasNames}
+use Rattle.model.specs.Volumes.{Node, directory_node, file_node, link_node, Volume, Entries, names_in, entries, enter, number_at, object_of, object_at, attributes_of, bytes_of_node, tree_of, with_node, with_edge, set_name, with_entry, is_file_node, is_directory_node, IsGraph, with_name_less, released, renamed, HasNames}
 use Rattle.model.proofs.WalkLemmas.{number_at-push, number_at-moved, behind-append, behind-is, edge_from, edge_other, edge_here, relocated-is, same_bytes, bytes_eq-same}
 use Rattle.model.proofs.CountLemmas.{same_count, one_less, one_more}
 use Rattle.model.proofs.VolumeLemmas.{ends, alone, directory_no_file}
@@ -19,27 +19,27 @@ use Rattle.model.proofs.ObjectLaws.{node_other}
 pub record Kept (old new : Option Node) : Type 0 where
   pub object : (n : ℕ) → object_of n new ≡ object_of n old
   pub bytes : bytes_of_node new ≡ bytes_of_node old
-  pub mode : mode_of new ≡ mode_of old
+  pub attributes : attributes_of new ≡ attributes_of old
   pub directory : is_directory_node new ≡ is_directory_node old
   pub file : is_file_node new ≡ is_file_node old
   pub some : is_some new ≡ is_some old
 
 pub kept : (o : Option Node) → Kept o o
-kept o = record { object = λ n. refl; bytes = refl; mode = refl; directory = refl; file = refl; some = refl }
+kept o = record { object = λ n. refl; bytes = refl; attributes = refl; directory = refl; file = refl; some = refl }
 
 pub kept_through : (a b c : Option Node) → Kept a b → Kept b c → Kept a c
-kept_through a b c k l = record { object = λ n. l.object n ∙ k.object n; bytes = l.bytes ∙ k.bytes; mode = l.mode ∙ k.mode; directory = l.directory ∙ k.directory; file = l.file ∙ k.file; some = l.some ∙ k.some }
+kept_through a b c k l = record { object = λ n. l.object n ∙ k.object n; bytes = l.bytes ∙ k.bytes; attributes = l.attributes ∙ k.attributes; directory = l.directory ∙ k.directory; file = l.file ∙ k.file; some = l.some ∙ k.some }
 
 set_keeps : (x : Name) (to : Option ℕ) (o : Option Node) → Kept o (set_name x to o)
 set_keeps x to None = kept None
-set_keeps x to (Some (directory_node attributes names)) = record { object = λ n. refl; bytes = refl; mode = refl; directory = refl; file = refl; some = refl }
+set_keeps x to (Some (directory_node attributes names)) = record { object = λ n. refl; bytes = refl; attributes = refl; directory = refl; file = refl; some = refl }
 set_keeps x to (Some (file_node attributes links bytes)) = kept (Some (file_node attributes links bytes))
 set_keeps x to (Some (link_node attributes text)) = kept (Some (link_node attributes text))
 
 less_keeps : (o : Option Node) → is_file_node o ≡ true → Kept o (with_name_less o)
 less_keeps None e = cc
 less_keeps (Some (directory_node attributes names)) e = cc
-less_keeps (Some (file_node attributes links bytes)) e = record { object = λ n. refl; bytes = refl; mode = refl; directory = refl; file = refl; some = refl }
+less_keeps (Some (file_node attributes links bytes)) e = record { object = λ n. refl; bytes = refl; attributes = refl; directory = refl; file = refl; some = refl }
 less_keeps (Some (link_node attributes text)) e = cc
 
 less_names : (o : Option Node) (x : Name) → names_in (with_name_less o) x ≡ None

@@ -1,19 +1,22 @@
--- Trees in which bytes and modes may be left over until they are swept.
-use Rattle.std.proofs.Common.{◌≡◌, ◌≢◌, ◌⊎◌, inl, inr, ℕ, zero, suc, ◌≤◌, ◌<◌, ◌==◌, List, [], ◌∷◌, ◌++◌, length, true, Option, Some, None, is_some, IsSome, IfSome, All, refl, sym, ap, subst, ◌∙◌, arith}
+-- Trees in which bytes and attributes may be left over until they are swept.
+use Rattle.std.proofs.Common.{◌≡◌, ◌≢◌, ◌⊎◌, inl, inr, ℕ, zero, suc, ◌≤◌, ◌<◌, ◌==◌, List, [], ◌∷◌, ◌++◌, length, true, Option, Some, None, is_some, IsSome, IfSome, All, refl, sym, ap, subst, ◌∙◌, arith, unwrap_or}
 use Rattle.std.proofs.lemmas.Bool.{cases_Bool, cases_eq, cases_lt, cond_both, cond-true, cond-false, false≢true, eq-eqb, ne_eqb}
 use Rattle.model.specs.declared.limits.Limits.{Limits}
-use Rattle.model.specs.declared.limits.TheConstants.{ROOT_NUMBER, FIRST_NUMBER, MODE_BITS, GREATEST_OFFSET, OPEN_FILES}
+use Rattle.model.specs.declared.attributes.Attributes.{Attributes}
+use Rattle.model.specs.declared.limits.TheConstants.{ROOT_NUMBER, FIRST_NUMBER, GREATEST_OFFSET, MODE_BITS, OPEN_FILES}
+use Rattle.model.specs.Attributes.{FitAttributes, no_attributes, set_mode}
 use Rattle.model.specs.Counting.{Counts, CountsUpTo}
 use Rattle.model.specs.Limits.{AreLimits}
 use Rattle.model.specs.Paths.{Path, IsName, IsLinkText}
 use Rattle.model.specs.Trees.{Tree, Object, directory, symlink, file, number_of_object, is_directory, Description, StandsAtPath, IsOpen, IsUsed, IsTree}
-use Rattle.model.specs.Edits.{with_mode, with_bytes, with_descriptor, IsSwept}
+use Rattle.model.specs.Edits.{attributes_at, with_attributes, with_mode, with_bytes, with_descriptor, IsSwept}
 use Rattle.model.specs.Volumes.{is_open}
+use Rattle.model.proofs.AttributeLaws.{set_fit}
 use Rattle.model.proofs.SweepLemmas.{found_open, opened_by}
 use Rattle.model.proofs.OnceLemmas.{trees_same}
 pub use Rattle.model.proofs.OptionLaws.{absent, some_or_none, some_same, none_some}
 
--- a tree but that bytes and modes may stand for numbers that aren't used
+-- a tree but that bytes and attributes may stand for numbers that aren't used
 pub record IsLooseTree (limits : Limits) (t : Tree) : Type 0 where
   pub can_be : AreLimits limits
   pub root : t.objects [] ≡ Some (directory ROOT_NUMBER)
@@ -21,16 +24,16 @@ pub record IsLooseTree (limits : Limits) (t : Tree) : Type 0 where
   pub names : (p : Path) → IsSome (t.objects p) → All IsName p
   pub single : (p q : Path) (o r : Object) → t.objects p ≡ Some o → t.objects q ≡ Some r → number_of_object o ≡ number_of_object r → (p ≡ q) ⊎ ((o ≡ file (number_of_object o)) × (r ≡ o))
   pub bytes : (n : ℕ) → (StandsAtPath t file n ⊎ IsOpen t n) → IsSome (t.bytes n)
-  pub mode : (n : ℕ) → (StandsAtPath t directory n ⊎ StandsAtPath t file n ⊎ IsOpen t n) → IsSome (t.mode n)
+  pub attributes : (n : ℕ) → IsUsed t n → IsSome (t.attributes n)
   pub loose_bytes : (n : ℕ) → IsSome (t.bytes n) → (StandsAtPath t file n ⊎ IsOpen t n) ⊎ (¬ IsUsed t n)
-  pub loose_mode : (n : ℕ) → IsSome (t.mode n) → (StandsAtPath t directory n ⊎ StandsAtPath t file n ⊎ IsOpen t n) ⊎ (¬ IsUsed t n)
+  pub loose_attributes : (n : ℕ) → IsSome (t.attributes n) → IsUsed t n ⊎ (¬ IsUsed t n)
   pub opened : (n : ℕ) (p : Path) (o : Object) → IsOpen t n → t.objects p ≡ Some o → number_of_object o ≡ n → o ≡ file n
   pub numbers : (n : ℕ) → IsUsed t n → (n ≡ ROOT_NUMBER) ⊎ ((FIRST_NUMBER ≤ n) × (n < limits.inodes))
   pub texts : (p : Path) (n : ℕ) (text : List ℕ) → t.objects p ≡ Some (symlink n text) → IsLinkText limits.path_bytes text
   pub children : (p : Path) → is_directory (t.objects p) ≡ true → CountsUpTo limits.directory_names (λ name. IsSome (t.objects (p ++ name ∷ [])))
   pub links : (n : ℕ) → CountsUpTo limits.file_names (λ p. t.objects p ≡ Some (file n))
   pub sizes : (n : ℕ) → IfSome (t.bytes n) (λ bytes. length bytes ≤ limits.file_bytes)
-  pub bits : (n : ℕ) → IfSome (t.mode n) (λ mode. mode ≤ MODE_BITS)
+  pub fit : (n : ℕ) → IfSome (t.attributes n) (FitAttributes limits.has_attributes)
   pub table : (d : ℕ) → OPEN_FILES ≤ d → t.descriptors d ≡ None
   pub offsets : (d : ℕ) (f : Description) → t.descriptors d ≡ Some f → f.offset ≤ GREATEST_OFFSET
 
@@ -42,16 +45,16 @@ tree_is_loose limits t tree = record {
   names = tree.names;
   single = tree.single;
   bytes = λ n stands. (tree.bytes n).1 stands;
-  mode = λ n stands. (tree.mode n).1 stands;
+  attributes = λ n used. (tree.attributes n).1 used;
   loose_bytes = λ n some. inl ((tree.bytes n).0 some);
-  loose_mode = λ n some. inl ((tree.mode n).0 some);
+  loose_attributes = λ n some. inl ((tree.attributes n).0 some);
   opened = tree.opened;
   numbers = tree.numbers;
   texts = tree.texts;
   children = tree.children;
   links = tree.links;
   sizes = tree.sizes;
-  bits = tree.bits;
+  fit = tree.fit;
   table = tree.table;
   offsets = tree.offsets;
 }
@@ -69,14 +72,10 @@ pub used_file : (t : Tree) (n : ℕ) → StandsAtPath t file n ⊎ IsOpen t n �
 used_file t n (inl (p, is)) = inl (p, file n, is, refl)
 used_file t n (inr open_file) = inr open_file
 
-pub used_either : (t : Tree) (n : ℕ) → StandsAtPath t directory n ⊎ StandsAtPath t file n ⊎ IsOpen t n → IsUsed t n
-used_either t n (inl (p, is)) = inl (p, directory n, is, refl)
-used_either t n (inr others) = used_file t n others
-
 -- what a sweep leaves is a tree
 module _ (limits : Limits) (old new : Tree) (loose : IsLooseTree limits old) (swept : IsSwept old new) where
   abbrev left : Tree
-  left = record old { bytes = new.bytes; mode = new.mode }
+  left = record old { bytes = new.bytes; attributes = new.attributes }
 
   bytes_left : (n : ℕ) → IsSome (new.bytes n) → StandsAtPath old file n ⊎ IsOpen old n
   bytes_left n some =
@@ -85,11 +84,11 @@ module _ (limits : Limits) (old new : Tree) (loose : IsLooseTree limits old) (sw
         | inr none ↦ absent (new.bytes n) (swept.gone n (λ used. absent (new.bytes n) ((swept.kept n used).0 ∙ none) some)).0 some
       ]
 
-  mode_left : (n : ℕ) → IsSome (new.mode n) → StandsAtPath old directory n ⊎ StandsAtPath old file n ⊎ IsOpen old n
-  mode_left n some =
-      elim (some_or_none (old.mode n)) [
-        | inl there ↦ elim (loose.loose_mode n there) [ inl stands ↦ stands | inr unused ↦ absent (new.mode n) (swept.gone n unused).1 some ]
-        | inr none ↦ absent (new.mode n) (swept.gone n (λ used. absent (new.mode n) ((swept.kept n used).1 ∙ none) some)).1 some
+  attributes_left : (n : ℕ) → IsSome (new.attributes n) → IsUsed old n
+  attributes_left n some =
+      elim (some_or_none (old.attributes n)) [
+        | inl there ↦ elim (loose.loose_attributes n there) [ inl used ↦ used | inr unused ↦ absent (new.attributes n) (swept.gone n unused).1 some ]
+        | inr none ↦ absent (new.attributes n) (swept.gone n (λ used. absent (new.attributes n) ((swept.kept n used).1 ∙ none) some)).1 some
       ]
 
   left_is_tree : IsTree limits left
@@ -100,7 +99,7 @@ module _ (limits : Limits) (old new : Tree) (loose : IsLooseTree limits old) (sw
     names = loose.names;
     single = loose.single;
     bytes = λ n. (bytes_left n, λ stands. same_some (new.bytes n) (old.bytes n) (swept.kept n (used_file old n stands)).0 (loose.bytes n stands));
-    mode = λ n. (mode_left n, λ stands. same_some (new.mode n) (old.mode n) (swept.kept n (used_either old n stands)).1 (loose.mode n stands));
+    attributes = λ n. (attributes_left n, λ used. same_some (new.attributes n) (old.attributes n) (swept.kept n used).1 (loose.attributes n used));
     opened = loose.opened;
     numbers = loose.numbers;
     texts = loose.texts;
@@ -110,9 +109,9 @@ module _ (limits : Limits) (old new : Tree) (loose : IsLooseTree limits old) (sw
       | inl some ↦ if_some (λ (bytes : List ℕ). length bytes ≤ limits.file_bytes) (new.bytes n) (old.bytes n) (swept.kept n (used_file old n (bytes_left n some))).0 (loose.sizes n)
       | inr none ↦ if_none (λ (bytes : List ℕ). length bytes ≤ limits.file_bytes) (new.bytes n) none
     ];
-    bits = λ n. elim (some_or_none (new.mode n)) [
-      | inl some ↦ if_some (λ (mode : ℕ). mode ≤ MODE_BITS) (new.mode n) (old.mode n) (swept.kept n (used_either old n (mode_left n some))).1 (loose.bits n)
-      | inr none ↦ if_none (λ (mode : ℕ). mode ≤ MODE_BITS) (new.mode n) none
+    fit = λ n. elim (some_or_none (new.attributes n)) [
+      | inl some ↦ if_some (FitAttributes limits.has_attributes) (new.attributes n) (old.attributes n) (swept.kept n (attributes_left n some)).1 (loose.fit n)
+      | inr none ↦ if_none (FitAttributes limits.has_attributes) (new.attributes n) none
     ];
     table = loose.table;
     offsets = loose.offsets;
@@ -184,9 +183,9 @@ module _ (limits : Limits) (old : Tree) (tree : IsTree limits old) (table : ℕ 
   still : (n : ℕ) → StandsAtPath old file n ⊎ IsOpen old n → (StandsAtPath closed file n ⊎ IsOpen closed n) ⊎ (¬ IsUsed closed n)
   still n stands = decided limits closed n (tree.links n) past (λ p o at_p same. all_files limits old (tree_is_loose limits old tree) n stands p o at_p same)
 
-  mode_still : (n : ℕ) → StandsAtPath old directory n ⊎ StandsAtPath old file n ⊎ IsOpen old n → (StandsAtPath closed directory n ⊎ StandsAtPath closed file n ⊎ IsOpen closed n) ⊎ (¬ IsUsed closed n)
-  mode_still n (inl stands) = inl (inl stands)
-  mode_still n (inr others) = elim (still n others) [ inl stands ↦ inl (inr stands) | inr unused ↦ inr unused ]
+  attributes_still : (n : ℕ) → IsUsed old n → IsUsed closed n ⊎ (¬ IsUsed closed n)
+  attributes_still n (inl path) = inl (inl path)
+  attributes_still n (inr open_file) = elim (still n (inr open_file)) [ inl stands ↦ inl (used_file closed n stands) | inr unused ↦ inr unused ]
 
   pub closed_is_loose : IsLooseTree limits closed
   closed_is_loose = record {
@@ -196,21 +195,21 @@ module _ (limits : Limits) (old : Tree) (tree : IsTree limits old) (table : ℕ 
     names = tree.names;
     single = tree.single;
     bytes = λ n stands. (tree.bytes n).1 (was_file n stands);
-    mode = λ n stands. (tree.mode n).1 (elim stands [ inl there ↦ inl there | inr others ↦ inr (was_file n others) ]);
+    attributes = λ n used. (tree.attributes n).1 (was_used n used);
     loose_bytes = λ n some. still n ((tree.bytes n).0 some);
-    loose_mode = λ n some. mode_still n ((tree.mode n).0 some);
+    loose_attributes = λ n some. attributes_still n ((tree.attributes n).0 some);
     opened = λ n p o open_file at_p same. tree.opened n p o (was_open n open_file) at_p same;
     numbers = λ n used. tree.numbers n (was_used n used);
     texts = tree.texts;
     children = tree.children;
     links = tree.links;
     sizes = tree.sizes;
-    bits = tree.bits;
+    fit = tree.fit;
     table = past;
     offsets = λ d f is. tree.offsets d f (fewer d f is);
   }
 
--- a tree stays one where a file that is used gets other bytes, or an object that has a mode another mode
+-- a tree stays one where a file that is used gets other bytes, or an object other attributes
 pub bytes_keep : (limits : Limits) (t : Tree) (n : ℕ) (given : List ℕ) → IsTree limits t → StandsAtPath t file n ⊎ IsOpen t n → length given ≤ limits.file_bytes → IsTree limits (with_bytes n given t)
 bytes_keep limits t n given tree stands few = record {
   can_be = tree.can_be;
@@ -225,32 +224,32 @@ bytes_keep limits t n given tree stands few = record {
     ],
     λ there. cond_both (k == n) (Some given) (t.bytes k) IsSome (λ e. refl) (λ e. (tree.bytes k).1 there),
   );
-  mode = tree.mode;
+  attributes = tree.attributes;
   opened = tree.opened;
   numbers = tree.numbers;
   texts = tree.texts;
   children = tree.children;
   links = tree.links;
   sizes = λ k. cond_both (k == n) (Some given) (t.bytes k) (λ o. IfSome o (λ bytes. length bytes ≤ limits.file_bytes)) (λ e. few) (λ e. tree.sizes k);
-  bits = tree.bits;
+  fit = tree.fit;
   table = tree.table;
   offsets = tree.offsets;
 }
 
-pub mode_keeps : (limits : Limits) (t : Tree) (n mode : ℕ) → IsTree limits t → StandsAtPath t directory n ⊎ StandsAtPath t file n ⊎ IsOpen t n → mode ≤ MODE_BITS → IsTree limits (with_mode n mode t)
-mode_keeps limits t n mode tree stands few = record {
+pub attributes_keep : (limits : Limits) (t : Tree) (n : ℕ) (a : Attributes) → IsTree limits t → IsUsed t n → FitAttributes limits.has_attributes a → IsTree limits (with_attributes n a t)
+attributes_keep limits t n a tree used fit = record {
   can_be = tree.can_be;
   root = tree.root;
   above = tree.above;
   names = tree.names;
   single = tree.single;
   bytes = tree.bytes;
-  mode = λ k. (
+  attributes = λ k. (
     λ some. elim (cases_eq k n) [
-      | inl is ↦ subst (λ j. StandsAtPath t directory j ⊎ StandsAtPath t file j ⊎ IsOpen t j) (sym is) stands
-      | inr other ↦ (tree.mode k).0 (sym (ap is_some (cond-false (k == n) (Some mode) (t.mode k) (ne_eqb k n other))) ∙ some)
+      | inl is ↦ subst (IsUsed t) (sym is) used
+      | inr other ↦ (tree.attributes k).0 (sym (ap is_some (cond-false (k == n) (Some a) (t.attributes k) (ne_eqb k n other))) ∙ some)
     ],
-    λ there. cond_both (k == n) (Some mode) (t.mode k) IsSome (λ e. refl) (λ e. (tree.mode k).1 there),
+    λ there. cond_both (k == n) (Some a) (t.attributes k) IsSome (λ e. refl) (λ e. (tree.attributes k).1 there),
   );
   opened = tree.opened;
   numbers = tree.numbers;
@@ -258,10 +257,22 @@ mode_keeps limits t n mode tree stands few = record {
   children = tree.children;
   links = tree.links;
   sizes = tree.sizes;
-  bits = λ k. cond_both (k == n) (Some mode) (t.mode k) (λ o. IfSome o (λ bits. bits ≤ MODE_BITS)) (λ e. few) (λ e. tree.bits k);
+  fit = λ k. cond_both (k == n) (Some a) (t.attributes k) (λ o. IfSome o (FitAttributes limits.has_attributes)) (λ e. fit) (λ e. tree.fit k);
   table = tree.table;
   offsets = tree.offsets;
 }
+
+-- what is used has attributes that fit
+pub attributes_fit : (limits : Limits) (t : Tree) (n : ℕ) → IsTree limits t → IsUsed t n → FitAttributes limits.has_attributes (attributes_at t n)
+attributes_fit limits t n tree used = by (t.attributes n) ((tree.attributes n).1 used) (tree.fit n)
+  where
+    by : (o : Option Attributes) → IsSome o → IfSome o (FitAttributes limits.has_attributes) → FitAttributes limits.has_attributes (unwrap_or o no_attributes)
+    by None some fit = absurd (false≢true some)
+    by (Some a) some fit = fit
+
+pub mode_keeps : (limits : Limits) (t : Tree) (n mode : ℕ) → IsTree limits t → IsUsed t n → mode ≤ MODE_BITS → IsTree limits (with_mode n mode t)
+mode_keeps limits t n mode tree used few =
+    attributes_keep limits t n (set_mode mode (attributes_at t n)) tree used (set_fit limits.has_attributes mode (attributes_at t n) few (attributes_fit limits t n tree used))
 
 -- a file that is used is opened at a free descriptor, or the offset of an open one moves
 module _ (limits : Limits) (t : Tree) (tree : IsTree limits t) (fd : ℕ) (f : Description) (below : fd < OPEN_FILES) (stands : StandsAtPath t file f.number ⊎ IsOpen t f.number) (few : f.offset ≤ GREATEST_OFFSET) (was : (g : Description) → t.descriptors fd ≡ Some g → g.number ≡ f.number) where
@@ -309,9 +320,9 @@ module _ (limits : Limits) (t : Tree) (tree : IsTree limits t) (fd : ℕ) (f : D
     names = tree.names;
     single = tree.single;
     bytes = λ n. (λ some. file_stays n ((tree.bytes n).0 some), λ there. (tree.bytes n).1 (file_was n there));
-    mode = λ n. (
-      λ some. elim ((tree.mode n).0 some) [ inl there ↦ inl there | inr others ↦ inr (file_stays n others) ],
-      λ there. (tree.mode n).1 (elim there [ inl here ↦ inl here | inr others ↦ inr (file_was n others) ]),
+    attributes = λ n. (
+      λ some. elim ((tree.attributes n).0 some) [ inl path ↦ inl path | inr open_file ↦ used_file held n (file_stays n (inr open_file)) ],
+      λ used. (tree.attributes n).1 (elim used [ inl path ↦ inl path | inr open_file ↦ used_file t n (file_was n (inr open_file)) ]),
     );
     opened = λ n p o open_file at_p same. all_files limits t (tree_is_loose limits t tree) n (opened_was n open_file) p o at_p same;
     numbers = λ n used. tree.numbers n (elim used [ inl path ↦ inl path | inr open_file ↦ used_file t n (opened_was n open_file) ]);
@@ -319,7 +330,7 @@ module _ (limits : Limits) (t : Tree) (tree : IsTree limits t) (fd : ℕ) (f : D
     children = tree.children;
     links = tree.links;
     sizes = tree.sizes;
-    bits = tree.bits;
+    fit = tree.fit;
     table = λ d past. held_other d (λ e. omega (arith, past, below, e)) ∙ tree.table d past;
     offsets = λ d g is. elim (held_is d g is) [ inl new ↦ subst (λ (h : Description). h.offset ≤ GREATEST_OFFSET) (sym new) few | inr old ↦ tree.offsets d g old ];
   }

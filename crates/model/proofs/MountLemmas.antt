@@ -2,7 +2,7 @@
 use Rattle.std.proofs.Common.{◌≡◌, inl, inr, ℕ, [], ◌∷◌, false, Option, None, refl, sym, ap, subst}
 use Rattle.model.specs.Trees.{Description, HasPath, IsUsed}
 use Rattle.model.specs.States.{ForgetsOpenFiles}
-use Rattle.model.specs.Volumes.{Volume, bytes_of_node, mode_of, tree_of, IsVolume}
+use Rattle.model.specs.Volumes.{Volume, attributes_of, bytes_of_node, tree_of, IsVolume}
 use Rattle.model.specs.Records.{applied, without_orphans}
 use Rattle.model.specs.Laws.{ReplaysKeepVolumes, MountsFind, MountsForget}
 use Rattle.model.proofs.SweepLemmas.{objects-swept, used_stays, not_unused, none_from}
@@ -43,8 +43,8 @@ mounts_forget limits running replayed table volume extends =
       descriptors = refl;
       kept = λ n there.
           let same : without_orphans running n ≡ running n = used_stays running volume.graph closed (λ d past. refl) n (inl there) in
-          (ap bytes_of_node same, ap mode_of same);
+          (ap bytes_of_node same, ap attributes_of same);
       gone = λ n nowhere.
           let none : without_orphans running n ≡ None = none_from (without_orphans running n) (λ stays. nowhere (path_of_used running n (not_unused running volume.graph closed (λ d past. refl) n stays))) in
-          (ap bytes_of_node none, ap mode_of none);
+          (ap bytes_of_node none, ap attributes_of none);
     }

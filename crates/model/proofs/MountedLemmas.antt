@@ -1,18 +1,19 @@
 -- The tree of a volume is a tree.
-use Rattle.std.proofs.Common.{◌≡◌, ◌≢◌, ◌⊎◌, inl, inr, ◌↔◌, ℕ, zero, suc, ◌≤◌, List, [], ◌∷◌, ◌++◌, fold, length, true, false, Option, Some, None, is_some, IsSome, IfSome, All, refl, sym, ap, subst, ◌∙◌, length-append, arith, lit≤}
+use Rattle.std.proofs.Common.{◌≡◌, ◌≢◌, ◌⊎◌, inl, inr, ◌↔◌, ℕ, zero, suc, ◌≤◌, List, [], ◌∷◌, ◌++◌, fold, length, true, false, Option, Some, None, is_some, IsSome, IfSome, All, refl, sym, ap, subst, ◌∙◌, length-append, arith}
 use Rattle.std.proofs.lemmas.Bool.{cases_Bool, false≢true}
 use Rattle.std.proofs.lemmas.List.Sums.{fold-append}
 use Rattle.std.proofs.lemmas.List.Elements.{All-nil, All-push}
 use Rattle.model.specs.declared.limits.Limits.{Limits}
 use Rattle.model.specs.declared.attributes.Attributes.{Attributes}
-use Rattle.model.specs.declared.limits.TheConstants.{ROOT_NUMBER, MODE_BITS}
+use Rattle.model.specs.declared.limits.TheConstants.{ROOT_NUMBER}
+use Rattle.model.specs.Attributes.{FitAttributes}
 use Rattle.model.specs.Counting.{CountsUpTo}
 use Rattle.model.specs.Paths.{Name, Path, IsName, IsLinkText}
-use Rattle.model.specs.Trees.{Tree, Object, directory, symlink, file, number_of_object, is_directory, Description, StandsAtPath, IsOpen, IsUsed, IsTree}
-use Rattle.model.specs.Volumes.{Node, directory_node, file_node, link_node, Volume, Entries, entries, enter, number_at, object_of, object_at, bytes_of_node, mode_of, tree_of, is_file_node, is_directory_node, IsNode, IsVolume, IsMounted}
+use Rattle.model.specs.Trees.{Tree, Object, symlink, file, number_of_object, is_directory, Description, StandsAtPath, IsOpen, IsUsed, IsTree}
+use Rattle.model.specs.Volumes.{Node, directory_node, file_node, link_node, Volume, Entries, entries, enter, number_at, object_of, object_at, attributes_of, bytes_of_node, tree_of, is_file_node, is_directory_node, IsNode, IsVolume, IsMounted}
 use Rattle.model.proofs.CountLemmas.{same_count}
 use Rattle.model.proofs.WalkLemmas.{number_at-push}
-use Rattle.model.proofs.VolumeLemmas.{ends, alone, enters_directory, directory_no_file, directory_some, last_step}
+use Rattle.model.proofs.VolumeLemmas.{ends, alone, enters_directory, last_step}
 use Rattle.model.proofs.LinkLemmas.{links_are}
 use Rattle.model.proofs.SweepLemmas.{found_number, not_unused}
 use Rattle.model.proofs.OptionLaws.{some_same}
@@ -55,23 +56,11 @@ file_bytes (Some (directory_node attributes names)) = refl
 file_bytes (Some (file_node attributes links bytes)) = refl
 file_bytes (Some (link_node attributes text)) = refl
 
-mode_kinds : (o : Option Node) → IsSome (mode_of o) → (is_directory_node o ≡ true) ⊎ (is_file_node o ≡ true)
-mode_kinds None some = absurd (false≢true some)
-mode_kinds (Some (directory_node attributes names)) some = inl refl
-mode_kinds (Some (file_node attributes links bytes)) some = inr refl
-mode_kinds (Some (link_node attributes text)) some = absurd (false≢true some)
-
-directory_mode : (o : Option Node) → is_directory_node o ≡ true → IsSome (mode_of o)
-directory_mode None e = e
-directory_mode (Some (directory_node attributes names)) e = refl
-directory_mode (Some (file_node attributes links bytes)) e = refl
-directory_mode (Some (link_node attributes text)) e = e
-
-file_mode : (o : Option Node) → is_file_node o ≡ true → IsSome (mode_of o)
-file_mode None e = e
-file_mode (Some (directory_node attributes names)) e = refl
-file_mode (Some (file_node attributes links bytes)) e = refl
-file_mode (Some (link_node attributes text)) e = e
+attributes_some : (o : Option Node) → is_some (attributes_of o) ≡ is_some o
+attributes_some None = refl
+attributes_some (Some (directory_node attributes names)) = refl
+attributes_some (Some (file_node attributes links bytes)) = refl
+attributes_some (Some (link_node attributes text)) = refl
 
 file_some : (o : Option Node) → is_file_node o ≡ true → IsSome o
 file_some None e = e
@@ -84,11 +73,11 @@ size_kept limits (Some (directory_node attributes names)) good = tt
 size_kept limits (Some (file_node attributes links bytes)) good = good.2
 size_kept limits (Some (link_node attributes text)) good = tt
 
-bits_kept : (limits : Limits) (o : Option Node) → IfSome o (IsNode limits) → IfSome (mode_of o) (λ mode. mode ≤ MODE_BITS)
-bits_kept limits None good = tt
-bits_kept limits (Some (directory_node attributes names)) good = good.mode
-bits_kept limits (Some (file_node attributes links bytes)) good = good.0.mode
-bits_kept limits (Some (link_node attributes text)) good = tt
+fit_kept : (limits : Limits) (o : Option Node) → IfSome o (IsNode limits) → IfSome (attributes_of o) (FitAttributes limits.has_attributes)
+fit_kept limits None good = tt
+fit_kept limits (Some (directory_node attributes names)) good = good
+fit_kept limits (Some (file_node attributes links bytes)) good = good.0
+fit_kept limits (Some (link_node attributes text)) good = good.0
 
 -- a walk that got nowhere stays there
 pub nowhere : (e : Entries) (q : Path) → fold (enter e) None q ≡ None
@@ -166,21 +155,6 @@ module _ (limits : Limits) (v : Volume) (volume : IsVolume limits v) (table : �
   bytes_are : (n : ℕ) → IsSome (t.bytes n) ↔ (StandsAtPath t file n ⊎ IsOpen t n)
   bytes_are n = (λ some. file_used n (sym (file_bytes (v n)) ∙ some), λ used. file_bytes (v n) ∙ used_file n used)
 
-  directory_stands : (n : ℕ) → is_directory_node (v n) ≡ true → StandsAtPath t directory n
-  directory_stands n is = let path = volume.graph.naming.reached n (directory_some (v n) is) (directory_no_file (v n) is) in (path.0, object_is path.0 n path.1 ∙ directory_object n (v n) is)
-
-  modes_are : (n : ℕ) → IsSome (t.mode n) ↔ (StandsAtPath t directory n ⊎ StandsAtPath t file n ⊎ IsOpen t n)
-  modes_are n = (
-    λ some. elim (mode_kinds (v n) some) [
-      | inl is ↦ inl (directory_stands n is)
-      | inr is ↦ inr (file_used n is)
-    ],
-    λ used. elim used [
-      | inl there ↦ directory_mode (v n) (object_directory n (v n) (ap is_directory (sym (object_is there.0 n (at_path there.0 (directory n) there.1)) ∙ there.1)))
-      | inr others ↦ file_mode (v n) (used_file n others)
-    ],
-  )
-
   opened_is : (n : ℕ) (p : Path) (o : Object) → IsOpen t n → t.objects p ≡ Some o → number_of_object o ≡ n → o ≡ file n
   opened_is n p o open_file at_p same =
       some_same (sym at_p ∙ object_is p n (at_path p o at_p ∙ ap (λ m. Some m) same) ∙ node_file n (v n) (used_file n (inr open_file)))
@@ -190,11 +164,17 @@ module _ (limits : Limits) (v : Volume) (volume : IsVolume limits v) (table : �
       sym (object_some n (v n)) ∙ ap is_some (sym (object_is there.0 n (found_number v (number_at (entries v) there.0) there.1 n there.2 there.3)) ∙ there.2)
   used_some n (inr open_file) = file_some (v n) (used_file n (inr open_file))
 
+  attributes_are : (n : ℕ) → IsSome (t.attributes n) ↔ IsUsed t n
+  attributes_are n = (
+    λ some. not_unused v volume.graph table mounted.bounded n (λ none. false≢true (sym (ap is_some (sym (mounted.is_swept n) ∙ none)) ∙ sym (attributes_some (v n)) ∙ some)),
+    λ used. attributes_some (v n) ∙ used_some n used,
+  )
+
   texts_are : (p : Path) (n : ℕ) (text : List ℕ) → t.objects p ≡ Some (symlink n text) → IsLinkText limits.path_bytes text
   texts_are p n text is =
       let link = object_link n (v n) n text (sym (object_is p n (at_path p (symlink n text) is)) ∙ is) in
       let good : IfSome (Some (link_node link.0 text)) (IsNode limits) = subst (λ o. IfSome o (IsNode limits)) link.1 (volume.keeps.nodes n) in
-      good
+      good.1
 
   entry_some : (o : Option ℕ) → ((n : ℕ) → o ≡ Some n → IsSome (v n)) → is_some (object_at v o) ≡ is_some o
   entry_some None used = refl
@@ -233,14 +213,14 @@ module _ (limits : Limits) (v : Volume) (volume : IsVolume limits v) (table : �
     names = names_are;
     single = single_is;
     bytes = bytes_are;
-    mode = modes_are;
+    attributes = attributes_are;
     opened = opened_is;
     numbers = λ n used. volume.keeps.numbers n (used_some n used);
     texts = texts_are;
     children = children_are;
     links = λ n. links_of n (v n) refl;
     sizes = λ n. size_kept limits (v n) (volume.keeps.nodes n);
-    bits = λ n. bits_kept limits (v n) (volume.keeps.nodes n);
+    fit = λ n. fit_kept limits (v n) (volume.keeps.nodes n);
     table = mounted.bounded;
     offsets = mounted.offsets;
   }

@@ -5,14 +5,15 @@ use Rattle.std.proofs.lemmas.List.{same_from_push}
 use Rattle.std.proofs.lemmas.List.Sums.{fold-append}
 use Rattle.model.specs.declared.limits.Limits.{Limits}
 use Rattle.model.specs.declared.attributes.Attributes.{Attributes}
-use Rattle.model.specs.declared.limits.TheConstants.{ROOT_NUMBER, MODE_BITS}
+use Rattle.model.specs.declared.limits.TheConstants.{LINK_MODE, MODE_BITS, ROOT_NUMBER}
+use Rattle.model.specs.Attributes.{FitAttributes, set_mode}
 use Rattle.model.specs.Counting.{Counts}
 use Rattle.model.specs.Limits.{AreLimits}
 use Rattle.model.specs.Paths.{Name, Path, IsName, behind}
 use Rattle.model.specs.Trees.{Description}
 use Rattle.model.specs.Edits.{written, resized}
 use Rattle.model.specs.Volumes.{Node, directory_node, file_node, link_node, Volume, Entries, names_in, entries, enter, number_at, with_node, with_edge, with_entry, is_file_node, is_directory_node, IsGraph, IsNode, IsVolume, with_name_more, released, created, linked, unnamed, renamed, swept}
-use Rattle.model.specs.Records.{Made, file, directory, symbolic_link, create, link, remove_name, rename, write, truncate, change_mode, set_file, node_of, with_file_bytes, with_node_mode, with_size, with_bits, IsMade, CanReplace, CanRename}
+use Rattle.model.specs.Records.{Made, file, directory, symbolic_link, create, link, remove_name, rename, write, truncate, change_mode, set_file, node_of, with_file_bytes, with_node_attributes, with_size, with_bits, IsMade, CanReplace, CanRename}
 use Rattle.model.specs.Laws.{RecordsKeepVolumes, SweepsKeepVolumes}
 use Rattle.model.proofs.AttributeLaws.{new_fit, set_fit}
 use Rattle.model.proofs.WalkLemmas.{behind-is, edge_other}
@@ -140,9 +141,9 @@ module _ {limits : Limits} (v : Volume) (graph : IsGraph v) (d : ℕ) (a : Name)
 
 -- the limits of what is made and of what changes
 made_good : (limits : Limits) → AreLimits limits → (made : Made) → IsMade limits made → IsNode limits (node_of made)
-made_good limits can_be (file mode) good = (new_fit mode good, can_be.named, omega arith)
-made_good limits can_be (directory mode) good = new_fit mode good
-made_good limits can_be (symbolic_link text) good = good
+made_good limits can_be (file mode) good = (new_fit limits.has_attributes mode good, can_be.named, omega arith)
+made_good limits can_be (directory mode) good = new_fit limits.has_attributes mode good
+made_good limits can_be (symbolic_link text) good = (new_fit limits.has_attributes LINK_MODE (lit≤ tt), good)
 
 pub made_bare : (made : Made) (x : Name) → names_in (Some (node_of made)) x ≡ None
 made_bare (file mode) x = refl
@@ -201,41 +202,41 @@ volume-bytes : (limits : Limits) (v : Volume) → IsVolume limits v → (n : ℕ
 volume-bytes limits v volume n f short =
     volume-altered limits v volume n (with_file_bytes f (v n)) (bytes_names f (v n)) (bytes_by is_file_node (λ attributes links a b. refl) f (v n)) (bytes_by is_directory_node (λ attributes links a b. refl) f (v n)) (bytes_by is_some (λ attributes links a b. refl) f (v n)) (bytes_links f (v n)) (bytes_good limits f (v n) short (volume.keeps.nodes n))
 
-pub mode_names : (bits : ℕ) (o : Option Node) (x : Name) → names_in (with_node_mode bits o) x ≡ names_in o x
-mode_names bits None x = refl
-mode_names bits (Some (directory_node attributes names)) x = refl
-mode_names bits (Some (file_node attributes links bytes)) x = refl
-mode_names bits (Some (link_node attributes text)) x = refl
+pub attributes_names : (f : Attributes → Attributes) (o : Option Node) (x : Name) → names_in (with_node_attributes f o) x ≡ names_in o x
+attributes_names f None x = refl
+attributes_names f (Some (directory_node attributes names)) x = refl
+attributes_names f (Some (file_node attributes links bytes)) x = refl
+attributes_names f (Some (link_node attributes text)) x = refl
 
-pub mode_file : (bits : ℕ) (o : Option Node) → is_file_node (with_node_mode bits o) ≡ is_file_node o
-mode_file bits None = refl
-mode_file bits (Some (directory_node attributes names)) = refl
-mode_file bits (Some (file_node attributes links bytes)) = refl
-mode_file bits (Some (link_node attributes text)) = refl
+pub attributes_file : (f : Attributes → Attributes) (o : Option Node) → is_file_node (with_node_attributes f o) ≡ is_file_node o
+attributes_file f None = refl
+attributes_file f (Some (directory_node attributes names)) = refl
+attributes_file f (Some (file_node attributes links bytes)) = refl
+attributes_file f (Some (link_node attributes text)) = refl
 
-pub mode_directory : (bits : ℕ) (o : Option Node) → is_directory_node (with_node_mode bits o) ≡ is_directory_node o
-mode_directory bits None = refl
-mode_directory bits (Some (directory_node attributes names)) = refl
-mode_directory bits (Some (file_node attributes links bytes)) = refl
-mode_directory bits (Some (link_node attributes text)) = refl
+pub attributes_directory : (f : Attributes → Attributes) (o : Option Node) → is_directory_node (with_node_attributes f o) ≡ is_directory_node o
+attributes_directory f None = refl
+attributes_directory f (Some (directory_node attributes names)) = refl
+attributes_directory f (Some (file_node attributes links bytes)) = refl
+attributes_directory f (Some (link_node attributes text)) = refl
 
-pub mode_some : (bits : ℕ) (o : Option Node) → is_some (with_node_mode bits o) ≡ is_some o
-mode_some bits None = refl
-mode_some bits (Some (directory_node attributes names)) = refl
-mode_some bits (Some (file_node attributes links bytes)) = refl
-mode_some bits (Some (link_node attributes text)) = refl
+pub attributes_is_some : (f : Attributes → Attributes) (o : Option Node) → is_some (with_node_attributes f o) ≡ is_some o
+attributes_is_some f None = refl
+attributes_is_some f (Some (directory_node attributes names)) = refl
+attributes_is_some f (Some (file_node attributes links bytes)) = refl
+attributes_is_some f (Some (link_node attributes text)) = refl
 
-pub mode_links : (bits : ℕ) (o : Option Node) → SameLinks o (with_node_mode bits o)
-mode_links bits None attributes links bytes is = cc
-mode_links bits (Some (directory_node m names)) attributes links bytes is = cc
-mode_links bits (Some (file_node m l b)) attributes links bytes is = let same : l ≡ links = cc in (m, b, ap (λ c. Some (file_node m c b)) same)
-mode_links bits (Some (link_node a text)) attributes links bytes is = cc
+pub attributes_links : (f : Attributes → Attributes) (o : Option Node) → SameLinks o (with_node_attributes f o)
+attributes_links f None attributes links bytes is = cc
+attributes_links f (Some (directory_node a names)) attributes links bytes is = cc
+attributes_links f (Some (file_node a l b)) attributes links bytes is = let same : l ≡ links = cc in (a, b, ap (λ c. Some (file_node a c b)) same)
+attributes_links f (Some (link_node a text)) attributes links bytes is = cc
 
-mode_good : (limits : Limits) (bits : ℕ) (o : Option Node) → bits ≤ MODE_BITS → IfSome o (IsNode limits) → IfSome (with_node_mode bits o) (IsNode limits)
-mode_good limits bits None few good = tt
-mode_good limits bits (Some (directory_node attributes names)) few good = set_fit bits attributes few good
-mode_good limits bits (Some (file_node attributes links bytes)) few good = (set_fit bits attributes few good.0, good.1, good.2)
-mode_good limits bits (Some (link_node attributes text)) few good = good
+attributes_good : (limits : Limits) (f : Attributes → Attributes) (o : Option Node) → ((a : Attributes) → FitAttributes limits.has_attributes a → FitAttributes limits.has_attributes (f a)) → IfSome o (IsNode limits) → IfSome (with_node_attributes f o) (IsNode limits)
+attributes_good limits f None fits good = tt
+attributes_good limits f (Some (directory_node attributes names)) fits good = fits attributes good
+attributes_good limits f (Some (file_node attributes links bytes)) fits good = (fits attributes good.0, good.1, good.2)
+attributes_good limits f (Some (link_node attributes text)) fits good = (fits attributes good.0, good.1)
 
 resized_short : (limits : Limits) (size : ℕ) (bytes : List ℕ) → size ≤ limits.file_bytes → length bytes ≤ limits.file_bytes → length (resized size bytes) ≤ limits.file_bytes
 resized_short limits size bytes fits short = subst (λ k. k ≤ limits.file_bytes) (sym (length-resized size bytes)) fits
@@ -246,7 +247,9 @@ volume-size limits v volume number size fits = volume-bytes limits v volume numb
 
 volume-bits : (limits : Limits) (v : Volume) → IsVolume limits v → (number mode : ℕ) → mode ≤ MODE_BITS → IsVolume limits (with_bits number mode v)
 volume-bits limits v volume number mode few =
-    volume-altered limits v volume number (with_node_mode mode (v number)) (mode_names mode (v number)) (mode_file mode (v number)) (mode_directory mode (v number)) (mode_some mode (v number)) (mode_links mode (v number)) (mode_good limits mode (v number) few (volume.keeps.nodes number))
+    let f = set_mode mode in
+    volume-altered limits v volume number (with_node_attributes f (v number)) (attributes_names f (v number)) (attributes_file f (v number)) (attributes_directory f (v number)) (attributes_is_some f (v number)) (attributes_links f (v number))
+    (attributes_good limits f (v number) (λ a fit. set_fit limits.has_attributes mode a few fit) (volume.keeps.nodes number))
 
 -- a record that applies keeps a volume
 pub records_keep_volumes : RecordsKeepVolumes

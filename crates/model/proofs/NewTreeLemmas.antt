@@ -1,13 +1,14 @@
 -- The tree of a new file system, and a tree with no snapshots beside it.
-use Rattle.std.proofs.Common.{◌≡◌, inl, inr, ℕ, ◌==◌, ◌≤◌, List, [], ◌∷◌, ◌++◌, arith, Some, None, IsSome, is_some, IfSome, All, refl, sym, ap, subst, ◌∙◌, lit≤}
+use Rattle.std.proofs.Common.{◌≡◌, inl, inr, ℕ, ◌==◌, List, [], ◌∷◌, ◌++◌, arith, Some, None, IsSome, is_some, IfSome, All, refl, sym, ap, subst, ◌∙◌, lit≤}
 use Rattle.std.proofs.lemmas.Bool.{cases_Bool, cond_both, cond-true, cond-false, false≢true, eq-eqb, eqb-true}
 use Rattle.std.proofs.lemmas.List.Elements.{All-nil}
 use Rattle.model.specs.declared.limits.Limits.{Limits}
-use Rattle.model.specs.declared.limits.TheConstants.{MODE_BITS}
+use Rattle.model.specs.Attributes.{FitAttributes, new_attributes}
 use Rattle.model.specs.Limits.{AreLimits}
 use Rattle.model.specs.Paths.{Name, Path, IsName, path_eq}
 use Rattle.model.specs.Trees.{Tree, Object, directory, symlink, file, number_of_object, IsTree, root_alone}
 use Rattle.model.specs.States.{Mark, IsState, IsFrozen, IsShortName}
+use Rattle.model.proofs.AttributeLaws.{new_fit}
 use Rattle.model.proofs.WalkLemmas.{same_path}
 use Rattle.model.proofs.OptionLaws.{none_some, some_same}
 use Rattle.model.proofs.ObjectLaws.{directory_file}
@@ -46,14 +47,14 @@ root_is_tree limits can_be = record {
   names = λ p some. subst (All IsName) (sym (root_some 0o755 p some)) (All-nil IsName);
   single = λ p q o r at_p at_q same. inl ((root_at 0o755 p o at_p).0 ∙ sym (root_at 0o755 q r at_q).0);
   bytes = λ n. (λ some. absurd (false≢true some), λ stands. elim stands [ inl there ↦ directory_file (sym (root_at 0o755 there.0 (file n) there.1).1) | inr open_file ↦ none_some open_file.2 ]);
-  mode = λ n. (
+  attributes = λ n. (
     λ some. elim (cases_Bool (n == 3)) [
-      | inl e ↦ inl ([], ap (λ k. Some (directory k)) (sym (eqb-true n 3 e)))
-      | inr e ↦ absurd (false≢true (sym (ap is_some (cond-false (n == 3) (Some 0o755) None e)) ∙ some))
+      | inl e ↦ inl ([], directory 3, refl, sym (eqb-true n 3 e))
+      | inr e ↦ absurd (false≢true (sym (ap is_some (cond-false (n == 3) (Some (new_attributes 0o755)) None e)) ∙ some))
     ],
-    λ stands. elim stands [
-      | inl there ↦ ap is_some (cond-true (n == 3) (Some 0o755) None (eq-eqb n 3 (ap number_of_object (root_at 0o755 there.0 (directory n) there.1).1)))
-      | inr others ↦ elim others [ inl there ↦ directory_file (sym (root_at 0o755 there.0 (file n) there.1).1) | inr open_file ↦ none_some open_file.2 ]
+    λ used. elim used [
+      | inl there ↦ ap is_some (cond-true (n == 3) (Some (new_attributes 0o755)) None (eq-eqb n 3 (sym there.3 ∙ ap number_of_object (root_at 0o755 there.0 there.1 there.2).1)))
+      | inr open_file ↦ none_some open_file.2
     ],
   );
   opened = λ n p o open_file at_p same. none_some open_file.2;
@@ -62,7 +63,7 @@ root_is_tree limits can_be = record {
   children = λ p is. (0, (λ name some. last_some name [] (append_empty p (name ∷ []) (root_some 0o755 (p ++ name ∷ []) some))), omega arith);
   links = λ n. (0, (λ p is. directory_file (sym (root_at 0o755 p (file n) is).1)), omega arith);
   sizes = λ n. tt;
-  bits = λ n. cond_both (n == 3) (Some 0o755) None (λ o. IfSome o (λ mode. mode ≤ MODE_BITS)) (λ e. lit≤ tt) (λ e. tt);
+  fit = λ n. cond_both (n == 3) (Some (new_attributes 0o755)) None (λ o. IfSome o (FitAttributes limits.has_attributes)) (λ e. new_fit limits.has_attributes 0o755 (lit≤ tt)) (λ e. tt);
   table = λ d past. refl;
   offsets = λ d f is. none_some is;
 }

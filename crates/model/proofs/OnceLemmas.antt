@@ -1,5 +1,5 @@
 -- A call has at most one outcome.
-use Rattle.std.proofs.Common.{◌≡◌, ◌≢◌, ◌⊎◌, inl, inr, ℕ, List, [], ◌∷◌, ◌++◌, length, Bool, true, false, Option, Some, None, bytes_eq, refl, sym, ap, subst, ◌∙◌, arith}
+use Rattle.std.proofs.Common.{◌≡◌, ◌≢◌, ◌⊎◌, inl, inr, ℕ, List, [], ◌∷◌, ◌++◌, length, Bool, true, false, Option, Some, None, bytes_eq, refl, sym, ap, subst, ◌∙◌}
 use Rattle.std.specs.Prelude.{ℤ, MatchOption, nat_abs, nat_le, nat_lt, min, ◌==◌, not, ◌&&◌, ◌||◌, if◌then◌else◌, ◌+◌}
 use Rattle.std.proofs.Math.Path.{fun_ext}
 use Rattle.std.proofs.lemmas.Bool.{cases_Bool, cases_order, both_ways}
@@ -13,14 +13,13 @@ use Rattle.model.specs.declared.reply.Reply.TheVariants as reply
 use Rattle.model.specs.declared.command.Flags.{Flags}
 use Rattle.model.specs.declared.command.Settings.{Settings}
 use Rattle.model.specs.declared.reply.Extent.{Extent}
-use Rattle.model.specs.Holes.{TellsExtent}
 use Rattle.model.proofs.HoleLemmas.{extent_once}
 use Rattle.model.specs.declared.command.Whence.{Whence}
 use Rattle.model.specs.declared.command.PathCall.{PathCall}
 use Rattle.model.specs.declared.command.PathCall.TheVariants as call
 use Rattle.model.specs.Paths.{Name, Path, Tests, first_refusal, text_tests_then, text_tests, new_text_tests, is_empty, is_root_text, parts_behind, path_eq, start_number}
 use Rattle.model.specs.Trees.{Tree, Object, directory, symlink, file, Description, HasNumber, HasPath, IsUsed}
-use Rattle.model.specs.Edits.{contents, with_descriptor, with_object, with_directory, IsSwept}
+use Rattle.model.specs.Edits.{contents, with_descriptor, with_directory, with_symlink, IsSwept}
 use Rattle.model.specs.Resolution.{Resolution, named, missing, refused, resolve, resolve_within}
 use Rattle.model.specs.Room.{Need}
 use Rattle.model.specs.Outcomes.{Outcome, answers, refuses, changes, changes_swept, tested, either, leads, leads_from, goes_along, goes_to, with_number, with_names, with_place, IsFresh, HasNoFresh, at_number, with_fresh, HasLinks, with_links, lowest_free, described}
@@ -29,7 +28,8 @@ use Rattle.model.specs.Changing as changing
 use Rattle.model.specs.Descriptors as descriptors
 use Rattle.model.specs.States.{ForgetsOpenFiles}
 use Rattle.model.specs.Steps.{calls}
-use Rattle.model.proofs.CountLemmas.{counts_once, number_apart}
+use Rattle.model.proofs.AttributeLaws.{attributes_apart}
+use Rattle.model.proofs.CountLemmas.{counts_once}
 use Rattle.model.proofs.ListingLemmas.{listing_once, members_once}
 use Rattle.model.proofs.EntryLemmas.{cookie_total}
 use Rattle.model.proofs.OptionLaws.{some_same}
@@ -86,21 +86,21 @@ the_same apart P o r s one other gone lost =
       | inr e ↦ let unused : ¬ P = λ p. e (one p ∙ sym (other p)) in gone unused ∙ sym (lost unused)
     ]
 
-pub trees_same : (t u : Tree) → t.objects ≡ u.objects → t.bytes ≡ u.bytes → t.mode ≡ u.mode → t.descriptors ≡ u.descriptors → t ≡ u
-trees_same t u objects bytes mode descriptors = λ i. record { objects = objects i; bytes = bytes i; mode = mode i; descriptors = descriptors i }
+pub trees_same : (t u : Tree) → t.objects ≡ u.objects → t.bytes ≡ u.bytes → t.attributes ≡ u.attributes → t.descriptors ≡ u.descriptors → t ≡ u
+trees_same t u objects bytes attributes descriptors = λ i. record { objects = objects i; bytes = bytes i; attributes = attributes i; descriptors = descriptors i }
 
 swept_once : (old t u : Tree) → IsSwept old t → IsSwept old u → t ≡ u
 swept_once old t u one other =
     trees_same t u (one.objects ∙ sym other.objects)
     (fun_ext {f = t.bytes} {g = u.bytes} (λ n. the_same bytes_apart (IsUsed old n) (t.bytes n) (u.bytes n) (old.bytes n) (λ used. (one.kept n used).0) (λ used. (other.kept n used).0) (λ unused. (one.gone n unused).0) (λ unused. (other.gone n unused).0)))
-    (fun_ext {f = t.mode} {g = u.mode} (λ n. the_same number_apart (IsUsed old n) (t.mode n) (u.mode n) (old.mode n) (λ used. (one.kept n used).1) (λ used. (other.kept n used).1) (λ unused. (one.gone n unused).1) (λ unused. (other.gone n unused).1)))
+    (fun_ext {f = t.attributes} {g = u.attributes} (λ n. the_same attributes_apart (IsUsed old n) (t.attributes n) (u.attributes n) (old.attributes n) (λ used. (one.kept n used).1) (λ used. (other.kept n used).1) (λ unused. (one.gone n unused).1) (λ unused. (other.gone n unused).1)))
     (one.descriptors ∙ sym other.descriptors)
 
 pub forgets_once : (old t u : Tree) → ForgetsOpenFiles old t → ForgetsOpenFiles old u → t ≡ u
 forgets_once old t u one other =
     trees_same t u (one.objects ∙ sym other.objects)
     (fun_ext {f = t.bytes} {g = u.bytes} (λ n. the_same bytes_apart (HasPath old n) (t.bytes n) (u.bytes n) (old.bytes n) (λ used. (one.kept n used).0) (λ used. (other.kept n used).0) (λ unused. (one.gone n unused).0) (λ unused. (other.gone n unused).0)))
-    (fun_ext {f = t.mode} {g = u.mode} (λ n. the_same number_apart (HasPath old n) (t.mode n) (u.mode n) (old.mode n) (λ used. (one.kept n used).1) (λ used. (other.kept n used).1) (λ unused. (one.gone n unused).1) (λ unused. (other.gone n unused).1)))
+    (fun_ext {f = t.attributes} {g = u.attributes} (λ n. the_same attributes_apart (HasPath old n) (t.attributes n) (u.attributes n) (old.attributes n) (λ used. (one.kept n used).1) (λ used. (other.kept n used).1) (λ unused. (one.gone n unused).1) (λ unused. (other.gone n unused).1)))
     (one.descriptors ∙ sym other.descriptors)
 
 once_swept : (r : Reply) (t : Tree) (need : Need) → Once (changes_swept r t need)
@@ -287,7 +287,7 @@ once_creates limits t path make =
 
 once_symlink : (limits : Limits) (t : Tree) (text path : List ℕ) → Once (changing.makes_symlink limits t text path)
 once_symlink limits t text path =
-    once_tested t (changing.link_text_tests limits text) _ (once_creates limits t path (λ p n. with_object p (symlink n text)))
+    once_tested t (changing.link_text_tests limits text) _ (once_creates limits t path (λ p n. with_symlink p n text))
 
 once_removes : (t : Tree) (p : Path) → Once (changing.removes t p)
 once_removes t p = once_swept _ _ _

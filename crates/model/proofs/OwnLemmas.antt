@@ -17,7 +17,7 @@ use Rattle.model.specs.declared.command.PathCall.{PathCall}
 use Rattle.model.specs.declared.command.PathCall.TheVariants as call
 use Rattle.model.specs.Paths.{Name, Path, parts, is_empty, is_dot, is_dot_dot, last_part, starts_with_slash, is_number_alone, is_root_text, parts_behind, start_number, Tests, first_refusal, text_tests_then, text_tests, new_text_tests}
 use Rattle.model.specs.Trees.{Tree, Object, directory, symlink, file, Description}
-use Rattle.model.specs.Edits.{contents, with_object, with_directory}
+use Rattle.model.specs.Edits.{contents, with_directory, with_symlink}
 use Rattle.model.specs.Resolution.{Resolution, named, missing, refused, Next, into, over, link, absent, too_long, next, Stop, at, at_link, walk, go_on, resolve_within, resolve}
 use Rattle.model.specs.Room.{Room, Need, nothing}
 use Rattle.model.specs.Outcomes.{Outcome, answers, refuses, changes, changes_swept, tested, either, leads, leads_from, goes_along, goes_to, with_number, with_names, with_place, at_number, with_fresh, with_links, lowest_free, described}
@@ -256,7 +256,7 @@ own_creates limits t path make =
 
 own_symlink : (limits : Limits) (t : Tree) (text path : List ℕ) → Own t (changing.makes_symlink limits t text path)
 own_symlink limits t text path =
-    own_tested t (changing.link_text_tests limits text) _ (refl, (refl, (refl, tt))) (own_creates limits t path (λ p n. with_object p (symlink n text)))
+    own_tested t (changing.link_text_tests limits text) _ (refl, (refl, (refl, tt))) (own_creates limits t path (λ p n. with_symlink p n text))
 
 own_removes : (t : Tree) (p : Path) → Own t (changing.removes t p)
 own_removes t p = own_swept _ _ _ _ tt

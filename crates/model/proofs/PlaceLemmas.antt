@@ -5,19 +5,22 @@ use Rattle.std.proofs.lemmas.Bool.{cases_eq, cond_both, cond-true, cond-false, f
 use Rattle.std.proofs.lemmas.List.{same_from_push}
 use Rattle.std.proofs.lemmas.List.Elements.{All-push}
 use Rattle.model.specs.declared.limits.Limits.{Limits}
-use Rattle.model.specs.declared.limits.TheConstants.{ROOT_NUMBER, FIRST_NUMBER, MODE_BITS}
+use Rattle.model.specs.declared.attributes.Attributes.{Attributes}
+use Rattle.model.specs.declared.limits.TheConstants.{ROOT_NUMBER, FIRST_NUMBER, LINK_MODE, MODE_BITS}
+use Rattle.model.specs.Attributes.{FitAttributes, new_attributes}
 use Rattle.model.specs.Counting.{Counts, CountsUpTo}
 use Rattle.model.specs.Paths.{Name, Path, IsName, IsLinkText, path_eq}
 use Rattle.model.specs.Trees.{Tree, Object, directory, symlink, file, number_of_object, is_directory, StandsAtPath, IsOpen, IsUsed, IsTree}
-use Rattle.model.specs.Edits.{put_at, with_mode, with_bytes}
+use Rattle.model.specs.Edits.{put_at, with_attributes, with_bytes}
 use Rattle.model.specs.Outcomes.{IsListing}
+use Rattle.model.proofs.AttributeLaws.{new_fit}
 use Rattle.model.proofs.CountLemmas.{same_count, one_more}
 use Rattle.model.proofs.ListingLemmas.{listing_counts}
 use Rattle.model.proofs.WalkLemmas.{path_eq-same, same_path, not_push}
 use Rattle.model.proofs.VolumeLemmas.{ends}
 use Rattle.model.proofs.OnceLemmas.{path_apart}
 use Rattle.model.proofs.LeadLemmas.{directory_some}
-use Rattle.model.proofs.LooseLemmas.{used_file, used_either}
+use Rattle.model.proofs.LooseLemmas.{used_file}
 use Rattle.model.proofs.ObjectLaws.{directory_file}
 use Rattle.model.proofs.OptionLaws.{none_some, some_same, absent}
 
@@ -49,29 +52,25 @@ file_or_not (directory k) n = inr (λ e. cc)
 file_or_not (symlink k text) n = inr (λ e. cc)
 file_or_not (file k) n = elim (cases_eq k n) [ inl e ↦ inl (ap file e) | inr e ↦ inr (λ f. e (ap number_of_object f)) ]
 
--- an object with its bytes and its mode fits a tree
-pub record Joins (limits : Limits) (t : Tree) (o : Object) (bytes : ℕ → Option (List ℕ)) (mode : ℕ → Option ℕ) : Type 0 where
+-- an object with its bytes and its attributes fits a tree
+pub record Joins (limits : Limits) (t : Tree) (o : Object) (bytes : ℕ → Option (List ℕ)) (attributes : ℕ → Option Attributes) : Type 0 where
   pub free : (q : Path) (r : Object) → t.objects q ≡ Some r → number_of_object r ≡ number_of_object o → (r ≡ o) × (o ≡ file (number_of_object o))
   pub opened : IsOpen t (number_of_object o) → o ≡ file (number_of_object o)
   pub numbers : (number_of_object o ≡ ROOT_NUMBER) ⊎ ((FIRST_NUMBER ≤ number_of_object o) × (number_of_object o < limits.inodes))
   pub text : (n : ℕ) (text : List ℕ) → o ≡ symlink n text → IsLinkText limits.path_bytes text
   pub links : (n : ℕ) → o ≡ file n → (count : ℕ) × Counts (λ p. t.objects p ≡ Some (file n)) count × (count < limits.file_names)
   pub other_bytes : (n : ℕ) → n ≢ number_of_object o → bytes n ≡ t.bytes n
-  pub other_mode : (n : ℕ) → n ≢ number_of_object o → mode n ≡ t.mode n
+  pub other_attributes : (n : ℕ) → n ≢ number_of_object o → attributes n ≡ t.attributes n
   pub has_bytes : o ≡ file (number_of_object o) → IsSome (bytes (number_of_object o))
   pub of_bytes : IsSome (bytes (number_of_object o)) → o ≡ file (number_of_object o)
-  pub has_mode : (o ≡ directory (number_of_object o)) ⊎ (o ≡ file (number_of_object o)) → IsSome (mode (number_of_object o))
-  pub of_mode : IsSome (mode (number_of_object o)) → (o ≡ directory (number_of_object o)) ⊎ (o ≡ file (number_of_object o))
+  pub has_attributes : IsSome (attributes (number_of_object o))
   pub sizes : (n : ℕ) → IfSome (bytes n) (λ given. length given ≤ limits.file_bytes)
-  pub bits : (n : ℕ) → IfSome (mode n) (λ given. given ≤ MODE_BITS)
+  pub fit : (n : ℕ) → IfSome (attributes n) (FitAttributes limits.has_attributes)
 
 -- a number that is free
 module _ (limits : Limits) (t : Tree) (tree : IsTree limits t) (n : ℕ) (low : FIRST_NUMBER ≤ n) (high : n < limits.inodes) (free : ¬ IsUsed t n) where
   no_bytes : ¬ IsSome (t.bytes n)
   no_bytes some = free (used_file t n ((tree.bytes n).0 some))
-
-  no_mode : ¬ IsSome (t.mode n)
-  no_mode some = free (used_either t n ((tree.mode n).0 some))
 
   set_here : {X : Type 0} (x : X) (f : ℕ → Option X) → (if n == n then Some x else f n) ≡ Some x
   set_here x f = cond-true (n == n) (Some x) (f n) (eq-eqb n n refl)
@@ -79,10 +78,14 @@ module _ (limits : Limits) (t : Tree) (tree : IsTree limits t) (n : ℕ) (low : 
   set_other : {X : Type 0} (k : ℕ) (x : X) (f : ℕ → Option X) → k ≢ n → (if k == n then Some x else f k) ≡ f k
   set_other k x f apart = cond-false (k == n) (Some x) (f k) (ne_eqb k n apart)
 
-  bits_with : (mode : ℕ) → mode ≤ MODE_BITS → (k : ℕ) → IfSome ((with_mode n mode t).mode k) (λ bits. bits ≤ MODE_BITS)
-  bits_with mode few k = cond_both (k == n) (Some mode) (t.mode k) (λ o. IfSome o (λ bits. bits ≤ MODE_BITS)) (λ e. few) (λ e. tree.bits k)
+  -- the attributes of a new object of this mode
+  abbrev with_new : ℕ → ℕ → Option Attributes
+  with_new mode = (with_attributes n (new_attributes mode) t).attributes
 
-  pub directory_joins : (mode : ℕ) → mode ≤ MODE_BITS → Joins limits t (directory n) t.bytes (with_mode n mode t).mode
+  fit_with : (mode : ℕ) → mode ≤ MODE_BITS → (k : ℕ) → IfSome (with_new mode k) (FitAttributes limits.has_attributes)
+  fit_with mode few k = cond_both (k == n) (Some (new_attributes mode)) (t.attributes k) (λ o. IfSome o (FitAttributes limits.has_attributes)) (λ e. new_fit limits.has_attributes mode few) (λ e. tree.fit k)
+
+  pub directory_joins : (mode : ℕ) → mode ≤ MODE_BITS → Joins limits t (directory n) t.bytes (with_new mode)
   directory_joins mode few = record {
     free = λ q r at_q same. absurd (free (inl (q, r, at_q, same)));
     opened = λ open_file. absurd (free (inr open_file));
@@ -90,16 +93,15 @@ module _ (limits : Limits) (t : Tree) (tree : IsTree limits t) (n : ℕ) (low : 
     text = λ k text e. cc;
     links = λ k e. directory_file e;
     other_bytes = λ k apart. refl;
-    other_mode = λ k apart. set_other k mode t.mode apart;
+    other_attributes = λ k apart. set_other k (new_attributes mode) t.attributes apart;
     has_bytes = λ e. directory_file e;
     of_bytes = λ some. absurd (no_bytes some);
-    has_mode = λ kind. ap is_some (set_here mode t.mode);
-    of_mode = λ some. inl refl;
+    has_attributes = ap is_some (set_here (new_attributes mode) t.attributes);
     sizes = tree.sizes;
-    bits = bits_with mode few;
+    fit = fit_with mode few;
   }
 
-  pub file_joins : (mode : ℕ) → mode ≤ MODE_BITS → Joins limits t (file n) (with_bytes n [] t).bytes (with_mode n mode t).mode
+  pub file_joins : (mode : ℕ) → mode ≤ MODE_BITS → Joins limits t (file n) (with_bytes n [] t).bytes (with_new mode)
   file_joins mode few = record {
     free = λ q r at_q same. absurd (free (inl (q, r, at_q, same)));
     opened = λ open_file. refl;
@@ -107,16 +109,15 @@ module _ (limits : Limits) (t : Tree) (tree : IsTree limits t) (n : ℕ) (low : 
     text = λ k text e. cc;
     links = λ k e. (0, (λ p is. free (inl (p, file k, is, ap number_of_object (sym e)))), omega (arith, tree.can_be.named));
     other_bytes = λ k apart. set_other k [] t.bytes apart;
-    other_mode = λ k apart. set_other k mode t.mode apart;
+    other_attributes = λ k apart. set_other k (new_attributes mode) t.attributes apart;
     has_bytes = λ e. ap is_some (set_here {X = List ℕ} [] t.bytes);
     of_bytes = λ some. refl;
-    has_mode = λ kind. ap is_some (set_here mode t.mode);
-    of_mode = λ some. inr refl;
+    has_attributes = ap is_some (set_here (new_attributes mode) t.attributes);
     sizes = λ k. cond_both (k == n) (Some []) (t.bytes k) (λ o. IfSome o (λ bytes. length bytes ≤ limits.file_bytes)) (λ e. omega arith) (λ e. tree.sizes k);
-    bits = bits_with mode few;
+    fit = fit_with mode few;
   }
 
-  pub symlink_joins : (text : List ℕ) → IsLinkText limits.path_bytes text → Joins limits t (symlink n text) t.bytes t.mode
+  pub symlink_joins : (text : List ℕ) → IsLinkText limits.path_bytes text → Joins limits t (symlink n text) t.bytes (with_new LINK_MODE)
   symlink_joins text good = record {
     free = λ q r at_q same. absurd (free (inl (q, r, at_q, same)));
     opened = λ open_file. absurd (free (inr open_file));
@@ -124,17 +125,16 @@ module _ (limits : Limits) (t : Tree) (tree : IsTree limits t) (n : ℕ) (low : 
     text = λ k other e. subst (IsLinkText limits.path_bytes) (text_same e) good;
     links = λ k e. symlink_file e;
     other_bytes = λ k apart. refl;
-    other_mode = λ k apart. refl;
+    other_attributes = λ k apart. set_other k (new_attributes LINK_MODE) t.attributes apart;
     has_bytes = λ e. symlink_file e;
     of_bytes = λ some. absurd (no_bytes some);
-    has_mode = λ kind. elim kind [ inl e ↦ cc | inr e ↦ symlink_file e ];
-    of_mode = λ some. absurd (no_mode some);
+    has_attributes = ap is_some (set_here (new_attributes LINK_MODE) t.attributes);
     sizes = tree.sizes;
-    bits = tree.bits;
+    fit = fit_with LINK_MODE (lit≤ tt);
   }
 
 -- one more path of a file
-pub link_joins : (limits : Limits) (t : Tree) → IsTree limits t → (p : Path) (n count : ℕ) → t.objects p ≡ Some (file n) → Counts (λ q. t.objects q ≡ Some (file n)) count → count < limits.file_names → Joins limits t (file n) t.bytes t.mode
+pub link_joins : (limits : Limits) (t : Tree) → IsTree limits t → (p : Path) (n count : ℕ) → t.objects p ≡ Some (file n) → Counts (λ q. t.objects q ≡ Some (file n)) count → count < limits.file_names → Joins limits t (file n) t.bytes t.attributes
 link_joins limits t tree p n count at_p counts few = record {
   free = λ q r at_q same. elim (tree.single p q (file n) r at_p at_q (sym same)) [
     | inl one ↦ (some_same (sym at_q ∙ ap t.objects (sym one) ∙ at_p), refl)
@@ -145,22 +145,21 @@ link_joins limits t tree p n count at_p counts few = record {
   text = λ k text e. cc;
   links = λ k e. (count, subst (λ o. Counts (λ q. t.objects q ≡ Some o) count) e counts, few);
   other_bytes = λ k apart. refl;
-  other_mode = λ k apart. refl;
+  other_attributes = λ k apart. refl;
   has_bytes = λ e. (tree.bytes n).1 (inl (p, at_p));
   of_bytes = λ some. refl;
-  has_mode = λ kind. (tree.mode n).1 (inr (inl (p, at_p)));
-  of_mode = λ some. inr refl;
+  has_attributes = (tree.attributes n).1 (inl (p, file n, at_p, refl));
   sizes = tree.sizes;
-  bits = tree.bits;
+  fit = tree.fit;
 }
 
 -- an object that fits goes to a name that is free in a directory
-module _ (limits : Limits) (old : Tree) (tree : IsTree limits old) (path : Path) (name : Name) (o : Object) (bytes : ℕ → Option (List ℕ)) (mode : ℕ → Option ℕ) (stands : is_directory (old.objects path) ≡ true) (missing : old.objects (path ++ name ∷ []) ≡ None) (good : IsName name) (joins : Joins limits old o bytes mode) where
+module _ (limits : Limits) (old : Tree) (tree : IsTree limits old) (path : Path) (name : Name) (o : Object) (bytes : ℕ → Option (List ℕ)) (attributes : ℕ → Option Attributes) (stands : is_directory (old.objects path) ≡ true) (missing : old.objects (path ++ name ∷ []) ≡ None) (good : IsName name) (joins : Joins limits old o bytes attributes) where
   abbrev place : Path
   place = path ++ name ∷ []
 
   abbrev new : Tree
-  new = record old { objects = put_at place (Some o) old.objects; bytes = bytes; mode = mode }
+  new = record old { objects = put_at place (Some o) old.objects; bytes = bytes; attributes = attributes }
 
   here : new.objects place ≡ Some o
   here = put-here place (Some o) old.objects
@@ -248,33 +247,24 @@ module _ (limits : Limits) (old : Tree) (tree : IsTree limits old) (path : Path)
       file_stood : (n : ℕ) → n ≢ number_of_object o → StandsAtPath new file n → StandsAtPath old file n
       file_stood n other (p, is) = elim (found_in p (file n) is) [ inl one ↦ absurd (other (ap number_of_object one.1)) | inr one ↦ (p, one) ]
 
-  mode_new : (n : ℕ) → IsSome (mode n) ↔ (StandsAtPath new directory n ⊎ StandsAtPath new file n ⊎ IsOpen new n)
-  mode_new n =
+  used_on : (n : ℕ) → IsUsed old n → IsUsed new n
+  used_on n (inl (p, r, is, same)) = inl (p, r, stays p r is, same)
+  used_on n (inr open_file) = inr open_file
+
+  used_before : (n : ℕ) → n ≢ number_of_object o → IsUsed new n → IsUsed old n
+  used_before n other (inl (p, r, is, same)) =
+      elim (found_in p r is) [ inl one ↦ absurd (other (sym same ∙ ap number_of_object one.1)) | inr one ↦ inl (p, r, one, same) ]
+  used_before n other (inr open_file) = inr open_file
+
+  attributes_new : (n : ℕ) → IsSome (attributes n) ↔ IsUsed new n
+  attributes_new n =
       elim (cases_eq n (number_of_object o)) [
-        | inl is ↦ subst (λ k. IsSome (mode k) ↔ (StandsAtPath new directory k ⊎ StandsAtPath new file k ⊎ IsOpen new k)) (sym is) (
-          λ some. elim (joins.of_mode some) [
-            | inl kind ↦ inl (place, here ∙ ap (λ x. Some x) kind)
-            | inr kind ↦ inr (inl (place, here ∙ ap (λ x. Some x) kind))
-          ],
-          λ there. joins.has_mode (elim there [
-            | inl one ↦ elim (found_in one.0 (directory (number_of_object o)) one.1) [ inl at_place ↦ inl (sym at_place.1) | inr before ↦ inr (joins.free one.0 (directory (number_of_object o)) before refl).1 ]
-            | inr others ↦ inr (is_file others)
-          ]),
-        )
+        | inl is ↦ subst (λ k. IsSome (attributes k) ↔ IsUsed new k) (sym is) (λ some. inl (place, o, here, refl), λ used. joins.has_attributes)
         | inr other ↦ (
-          λ some. elim ((tree.mode n).0 (ap is_some (sym (joins.other_mode n other)) ∙ some)) [
-            | inl there ↦ inl (stands_on directory n there)
-            | inr others ↦ inr (elim others [ inl there ↦ inl (stands_on file n there) | inr open_file ↦ inr open_file ])
-          ],
-          λ there. ap is_some (joins.other_mode n other) ∙ (tree.mode n).1 (elim there [
-            | inl one ↦ inl (stood directory n (λ e. other (sym e)) one)
-            | inr others ↦ inr (elim others [ inl one ↦ inl (stood file n (λ e. other (sym e)) one) | inr open_file ↦ inr open_file ])
-          ]),
+          λ some. used_on n ((tree.attributes n).0 (ap is_some (sym (joins.other_attributes n other)) ∙ some)),
+          λ used. ap is_some (joins.other_attributes n other) ∙ (tree.attributes n).1 (used_before n other used),
         )
       ]
-    where
-      stood : (kind : ℕ → Object) (n : ℕ) → number_of_object o ≢ number_of_object (kind n) → StandsAtPath new kind n → StandsAtPath old kind n
-      stood kind n other (p, is) = elim (found_in p (kind n) is) [ inl one ↦ absurd (other (ap number_of_object (sym one.1))) | inr one ↦ (p, one) ]
 
   opened_new : (n : ℕ) (p : Path) (r : Object) → IsOpen new n → new.objects p ≡ Some r → number_of_object r ≡ n → r ≡ file n
   opened_new n p r open_file at_p same =
@@ -361,14 +351,14 @@ module _ (limits : Limits) (old : Tree) (tree : IsTree limits old) (path : Path)
     names = names_new;
     single = single_new;
     bytes = bytes_new;
-    mode = mode_new;
+    attributes = attributes_new;
     opened = opened_new;
     numbers = numbers_new;
     texts = texts_new;
     children = children_new names listing room;
     links = links_new;
     sizes = joins.sizes;
-    bits = joins.bits;
+    fit = joins.fit;
     table = tree.table;
     offsets = tree.offsets;
   }

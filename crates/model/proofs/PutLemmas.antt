@@ -59,7 +59,7 @@ file_no_names (Some (link_node attributes text)) e x = refl
 pub more_keeps : (o : Option Node) → Kept o (with_name_more o)
 more_keeps None = kept None
 more_keeps (Some (directory_node attributes names)) = kept (Some (directory_node attributes names))
-more_keeps (Some (file_node attributes links bytes)) = record { object = λ n. refl; bytes = refl; mode = refl; directory = refl; file = refl; some = refl }
+more_keeps (Some (file_node attributes links bytes)) = record { object = λ n. refl; bytes = refl; attributes = refl; directory = refl; file = refl; some = refl }
 more_keeps (Some (link_node attributes text)) = kept (Some (link_node attributes text))
 
 pub more_names : (o : Option Node) (x : Name) → names_in (with_name_more o) x ≡ names_in o x

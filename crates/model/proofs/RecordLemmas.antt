@@ -1,16 +1,18 @@
 -- What a record does to a volume is what it says of the tree.
-use Rattle.std.proofs.Common.{◌≡◌, ◌≢◌, ◌⊎◌, inl, inr, ℕ, zero, suc, ◌+◌, ◌≤◌, ◌<◌, ◌==◌, arith, List, [], ◌∷◌, ◌++◌, Bool, true, false, ◌||◌, Option, Some, None, refl, sym, ap, subst, ◌∙◌}
+use Rattle.std.proofs.Common.{◌≡◌, ◌≢◌, ◌⊎◌, inl, inr, ℕ, zero, suc, ◌+◌, ◌≤◌, ◌<◌, ◌==◌, arith, List, [], ◌∷◌, ◌++◌, Bool, true, false, ◌||◌, Option, Some, None, is_some, refl, sym, ap, subst, ◌∙◌}
 use Rattle.std.specs.Prelude.{if◌then◌else◌, unwrap_or}
 use Rattle.std.proofs.Math.Path.{fun_ext}
 use Rattle.std.proofs.lemmas.Bool.{cases_eq, cases_lt, cond_both, eqb-true, false≢true}
 use Rattle.model.specs.declared.limits.Limits.{Limits}
+use Rattle.model.specs.declared.attributes.Attributes.{Attributes}
 use Rattle.model.specs.declared.limits.TheConstants.{OPEN_FILES}
+use Rattle.model.specs.Attributes.{no_attributes, set_mode}
 use Rattle.model.specs.Paths.{Name, Path}
 use Rattle.model.specs.Trees as trees
 use Rattle.model.specs.Trees.{Tree, Description}
-use Rattle.model.specs.Edits.{contents, resized, written, put_at, without_object, with_mode, with_bytes}
-use Rattle.model.specs.Volumes.{Node, directory_node, file_node, link_node, Volume, names_in, entries, number_at, object_of, object_at, bytes_of_node, mode_of, tree_of, with_node, set_name, with_entry, is_file_node, is_directory_node, is_orphan, IsGraph, IsVolume, with_name_more, released, created, linked, unnamed, is_open, swept_node, swept, IsMounted}
-use Rattle.model.specs.Records.{Made, file, directory, symbolic_link, Change, create, link, remove_name, rename, write, truncate, change_mode, set_file, node_of, with_file_bytes, with_node_mode, with_size, with_bits, applied, CanCreate, CanLink, Applies}
+use Rattle.model.specs.Edits.{changing_attributes, contents, resized, written, put_at, without_object, with_mode, with_bytes}
+use Rattle.model.specs.Volumes.{Node, directory_node, file_node, link_node, Volume, names_in, entries, number_at, object_of, object_at, attributes_of, bytes_of_node, tree_of, with_node, set_name, with_entry, is_file_node, is_directory_node, is_orphan, IsGraph, IsVolume, with_name_more, released, created, linked, unnamed, is_open, swept_node, swept, IsMounted}
+use Rattle.model.specs.Records.{Made, file, directory, symbolic_link, Change, create, link, remove_name, rename, write, truncate, change_mode, set_file, node_of, with_file_bytes, with_node_attributes, with_size, with_bits, applied, CanCreate, CanLink, Applies}
 use Rattle.model.specs.Changes.{IsAt, with_made, ChangesTree, TakesFreeNumber}
 use Rattle.model.specs.Laws.{RecordsChangeTrees, VolumesAreTrees}
 use Rattle.model.proofs.VolumeLemmas.{enters_directory}
@@ -21,7 +23,7 @@ use Rattle.model.proofs.SweepLemmas.{swept_from, stays_open, found_open}
 use Rattle.model.proofs.RenameLemmas.{renamed_swept}
 use Rattle.model.proofs.OnceLemmas.{trees_same}
 use Rattle.model.proofs.AddLemmas.{more_kept, vacant_unnamed}
-use Rattle.model.proofs.MoveLemmas.{records_keep_volumes as keeps_volumes, path_to, from_path, to_path, is_move, made_bare, bytes_names, bytes_by, mode_names, mode_file}
+use Rattle.model.proofs.MoveLemmas.{records_keep_volumes as keeps_volumes, path_to, from_path, to_path, is_move, made_bare, bytes_names, bytes_by, attributes_names, attributes_file}
 use Rattle.model.proofs.MountedLemmas.{tree_of_is_tree, node_file}
 use Rattle.model.proofs.ObjectLaws.{directory_object, node_other}
 
@@ -93,12 +95,12 @@ bytes_orphan f (Some (file_node attributes zero bytes)) = refl
 bytes_orphan f (Some (file_node attributes (suc links) bytes)) = refl
 bytes_orphan f (Some (link_node attributes text)) = refl
 
-mode_orphan : (bits : ℕ) (o : Option Node) → is_orphan (with_node_mode bits o) ≡ is_orphan o
-mode_orphan bits None = refl
-mode_orphan bits (Some (directory_node attributes names)) = refl
-mode_orphan bits (Some (file_node attributes zero bytes)) = refl
-mode_orphan bits (Some (file_node attributes (suc links) bytes)) = refl
-mode_orphan bits (Some (link_node attributes text)) = refl
+attributes_orphan : (f : Attributes → Attributes) (o : Option Node) → is_orphan (with_node_attributes f o) ≡ is_orphan o
+attributes_orphan f None = refl
+attributes_orphan f (Some (directory_node attributes names)) = refl
+attributes_orphan f (Some (file_node attributes zero bytes)) = refl
+attributes_orphan f (Some (file_node attributes (suc links) bytes)) = refl
+attributes_orphan f (Some (link_node attributes text)) = refl
 
 -- a choice by a test, through a function
 chosen : {X Y : Type 0} (f : X → Y) (b : Bool) (x y : X) → f (if b then x else y) ≡ (if b then f x else f y)
@@ -165,8 +167,8 @@ module _ (limits : Limits) (v : Volume) (volume : IsVolume limits v) (table : �
   bytes_here f (Some (file_node attributes links bytes)) is = refl
   bytes_here f (Some (link_node attributes text)) is = absurd (false≢true is)
 
-  bytes_mode : (f : List ℕ → List ℕ) (o : Option Node) → mode_of (with_file_bytes f o) ≡ mode_of o
-  bytes_mode f o = bytes_by mode_of (λ attributes links a b. refl) f o
+  bytes_attributes : (f : List ℕ → List ℕ) (o : Option Node) → attributes_of (with_file_bytes f o) ≡ attributes_of o
+  bytes_attributes f o = bytes_by attributes_of (λ attributes links a b. refl) f o
 
   -- a file's bytes change
   module _ (n : ℕ) (f : List ℕ → List ℕ) (is : is_file_node (v n) ≡ true) where
@@ -178,37 +180,42 @@ module _ (limits : Limits) (v : Volume) (volume : IsVolume limits v) (table : �
         trees_same (tree_of (with_node n (with_file_bytes f (v n)) v) table) (record before { bytes = λ k. if k == n then Some (f (contents before n)) else before.bytes k })
         (altered_objects n (with_file_bytes f (v n)) (bytes_names f (v n)) (bytes_object f (v n)) (bytes_orphan f (v n)))
         (fun_ext (λ k. chosen bytes_of_node (k == n) (with_file_bytes f (v n)) (v k) ∙ ap (λ b. if k == n then b else before.bytes k) (bytes_here f (v n) is)))
-        (fun_ext (λ k. by_node n (with_file_bytes f (v n)) (bytes_names f (v n)) (bytes_object f (v n)) (bytes_orphan f (v n)) mode_of (bytes_mode f (v n)) k)) refl
+        (fun_ext (λ k. by_node n (with_file_bytes f (v n)) (bytes_names f (v n)) (bytes_object f (v n)) (bytes_orphan f (v n)) attributes_of (bytes_attributes f (v n)) k)) refl
 
-  mode_object : (bits : ℕ) (o : Option Node) (m : ℕ) → object_of m (with_node_mode bits o) ≡ object_of m o
-  mode_object bits None m = refl
-  mode_object bits (Some (directory_node attributes names)) m = refl
-  mode_object bits (Some (file_node attributes links bytes)) m = refl
-  mode_object bits (Some (link_node attributes text)) m = refl
+  attributes_object : (f : Attributes → Attributes) (o : Option Node) (m : ℕ) → object_of m (with_node_attributes f o) ≡ object_of m o
+  attributes_object f None m = refl
+  attributes_object f (Some (directory_node attributes names)) m = refl
+  attributes_object f (Some (file_node attributes links bytes)) m = refl
+  attributes_object f (Some (link_node attributes text)) m = refl
 
-  mode_here : (bits : ℕ) (o : Option Node) → (is_file_node o || is_directory_node o) ≡ true → mode_of (with_node_mode bits o) ≡ Some bits
-  mode_here bits None is = absurd (false≢true is)
-  mode_here bits (Some (directory_node attributes names)) is = refl
-  mode_here bits (Some (file_node attributes links bytes)) is = refl
-  mode_here bits (Some (link_node attributes text)) is = absurd (false≢true is)
+  attributes_here : (f : Attributes → Attributes) (o : Option Node) → is_some o ≡ true → attributes_of (with_node_attributes f o) ≡ Some (f (unwrap_or (attributes_of o) no_attributes))
+  attributes_here f None is = absurd (false≢true is)
+  attributes_here f (Some (directory_node attributes names)) is = refl
+  attributes_here f (Some (file_node attributes links bytes)) is = refl
+  attributes_here f (Some (link_node attributes text)) is = refl
 
-  mode_bytes : (bits : ℕ) (o : Option Node) → bytes_of_node (with_node_mode bits o) ≡ bytes_of_node o
-  mode_bytes bits None = refl
-  mode_bytes bits (Some (directory_node attributes names)) = refl
-  mode_bytes bits (Some (file_node attributes links bytes)) = refl
-  mode_bytes bits (Some (link_node attributes text)) = refl
+  attributes_bytes : (f : Attributes → Attributes) (o : Option Node) → bytes_of_node (with_node_attributes f o) ≡ bytes_of_node o
+  attributes_bytes f None = refl
+  attributes_bytes f (Some (directory_node attributes names)) = refl
+  attributes_bytes f (Some (file_node attributes links bytes)) = refl
+  attributes_bytes f (Some (link_node attributes text)) = refl
 
-  -- a mode changes
-  module _ (n bits : ℕ) (is : (is_file_node (v n) || is_directory_node (v n)) ≡ true) where
-    modes_swept : swept table (with_node n (with_node_mode bits (v n)) v) ≡ with_node n (with_node_mode bits (v n)) v
-    modes_swept = altered_swept n (with_node_mode bits (v n)) (mode_names bits (v n)) (mode_object bits (v n)) (mode_orphan bits (v n))
+  -- an object's attributes change
+  module _ (n : ℕ) (f : Attributes → Attributes) (is : is_some (v n) ≡ true) where
+    changed_swept : swept table (with_node n (with_node_attributes f (v n)) v) ≡ with_node n (with_node_attributes f (v n)) v
+    changed_swept = altered_swept n (with_node_attributes f (v n)) (attributes_names f (v n)) (attributes_object f (v n)) (attributes_orphan f (v n))
 
-    modes_tree : tree_of (with_node n (with_node_mode bits (v n)) v) table ≡ record before { mode = λ k. if k == n then Some bits else before.mode k }
-    modes_tree =
-        trees_same (tree_of (with_node n (with_node_mode bits (v n)) v) table) (record before { mode = λ k. if k == n then Some bits else before.mode k })
-        (altered_objects n (with_node_mode bits (v n)) (mode_names bits (v n)) (mode_object bits (v n)) (mode_orphan bits (v n)))
-        (fun_ext (λ k. by_node n (with_node_mode bits (v n)) (mode_names bits (v n)) (mode_object bits (v n)) (mode_orphan bits (v n)) bytes_of_node (mode_bytes bits (v n)) k))
-        (fun_ext (λ k. chosen mode_of (k == n) (with_node_mode bits (v n)) (v k) ∙ ap (λ b. if k == n then b else before.mode k) (mode_here bits (v n) is))) refl
+    changed_tree : tree_of (with_node n (with_node_attributes f (v n)) v) table ≡ changing_attributes n f before
+    changed_tree =
+        trees_same (tree_of (with_node n (with_node_attributes f (v n)) v) table) (changing_attributes n f before)
+        (altered_objects n (with_node_attributes f (v n)) (attributes_names f (v n)) (attributes_object f (v n)) (attributes_orphan f (v n)))
+        (fun_ext (λ k. by_node n (with_node_attributes f (v n)) (attributes_names f (v n)) (attributes_object f (v n)) (attributes_orphan f (v n)) bytes_of_node (attributes_bytes f (v n)) k))
+        (fun_ext (λ k. chosen attributes_of (k == n) (with_node_attributes f (v n)) (v k) ∙ ap (λ b. if k == n then b else before.attributes k) (attributes_here f (v n) is))) refl
+
+-- what is a file or a directory is there
+either_there : (o : Option Node) → (is_file_node o || is_directory_node o) ≡ true → is_some o ≡ true
+either_there None is = is
+either_there (Some o) is = refl
 
 -- a size changes, and then a mode
 module _ (limits : Limits) (v : Volume) (volume : IsVolume limits v) (table : ℕ → Option Description) (mounted : IsMounted v table) (n mode size : ℕ) (can : Applies limits v (set_file n mode size)) where
@@ -228,19 +235,19 @@ module _ (limits : Limits) (v : Volume) (volume : IsVolume limits v) (table : �
   sized_volume : IsVolume limits sized
   sized_volume = keeps_volumes limits v (truncate n size) volume (can.0, can.2)
 
-  sized_has : (is_file_node (sized n) || is_directory_node (sized n)) ≡ true
-  sized_has = ap (λ b. b || is_directory_node (sized n)) (sized_file n can.0)
+  sized_has : is_some (sized n) ≡ true
+  sized_has = either_there (sized n) (ap (λ b. b || is_directory_node (sized n)) (sized_file n can.0))
 
   set_tree : tree_of (swept table (with_bits n mode sized)) table
       ≡ with_mode n mode (with_bytes n (resized size (contents (tree_of v table) n)) (tree_of v table))
   set_tree =
-      ap (λ w. tree_of w table) (modes_swept limits sized sized_volume table sized_mounted n mode sized_has)
-      ∙ modes_tree limits sized sized_volume table sized_mounted n mode sized_has
+      ap (λ w. tree_of w table) (changed_swept limits sized sized_volume table sized_mounted n (set_mode mode) sized_has)
+      ∙ changed_tree limits sized sized_volume table sized_mounted n (set_mode mode) sized_has
       ∙ ap (λ u. with_mode n mode u) (bytes_tree limits v volume table mounted n (resized size) can.0)
 
   set_files : (k : ℕ) → is_file_node (v k) ≡ true → is_file_node (with_bits n mode sized k) ≡ true
   set_files k is =
-      by_node limits sized sized_volume table sized_mounted n (with_node_mode mode (sized n)) (mode_names mode (sized n)) (mode_object limits sized sized_volume table sized_mounted mode (sized n)) (mode_orphan mode (sized n)) is_file_node (mode_file mode (sized n)) k
+      by_node limits sized sized_volume table sized_mounted n (with_node_attributes (set_mode mode) (sized n)) (attributes_names (set_mode mode) (sized n)) (attributes_object limits sized sized_volume table sized_mounted (set_mode mode) (sized n)) (attributes_orphan (set_mode mode) (sized n)) is_file_node (attributes_file (set_mode mode) (sized n)) k
       ∙ sized_file k is
 
 module _ (limits : Limits) (v : Volume) (volume : IsVolume limits v) (table : ℕ → Option Description) (mounted : IsMounted v table) where
@@ -286,8 +293,8 @@ module _ (limits : Limits) (v : Volume) (volume : IsVolume limits v) (table : �
     bytes : (m : ℕ) → bytes_of_node (new m) ≡ (if m == number then bytes_of_node (Some (node_of made)) else bytes_of_node (v m))
     bytes = shown bytes_of_node (λ m. (entry_keeps parent name (Some number) more m).bytes)
 
-    modes : (m : ℕ) → mode_of (new m) ≡ (if m == number then mode_of (Some (node_of made)) else mode_of (v m))
-    modes = shown mode_of (λ m. (entry_keeps parent name (Some number) more m).mode)
+    attributes : (m : ℕ) → attributes_of (new m) ≡ (if m == number then attributes_of (Some (node_of made)) else attributes_of (v m))
+    attributes = shown attributes_of (λ m. (entry_keeps parent name (Some number) more m).attributes)
 
     as_before : {X : Type 0} (f : Option Node → Option X) → f None ≡ None → f (Some (node_of made)) ≡ None → (m : ℕ) → (if m == number then f (Some (node_of made)) else f (v m)) ≡ f (v m)
     as_before f none same m =
@@ -311,14 +318,14 @@ module _ (limits : Limits) (v : Volume) (volume : IsVolume limits v) (table : �
   makes_tree : (number parent : ℕ) (made : Made) (name : Name) (can : CanCreate limits v number parent made name) (free : v number ≡ None) → tree_of (created number parent name (node_of made) v) table ≡ with_made made (q number parent made name can free) number t
   makes_tree number parent (file mode) name can free =
       trees_same (tree_of (created number parent name (node_of (file mode)) v) table) (with_made (file mode) (q number parent (file mode) name can free) number t)
-      (objects number parent (file mode) name can free) (fun_ext (bytes number parent (file mode) name can free)) (fun_ext (modes number parent (file mode) name can free)) refl
+      (objects number parent (file mode) name can free) (fun_ext (bytes number parent (file mode) name can free)) (fun_ext (attributes number parent (file mode) name can free)) refl
   makes_tree number parent (directory mode) name can free =
       trees_same (tree_of (created number parent name (node_of (directory mode)) v) table) (with_made (directory mode) (q number parent (directory mode) name can free) number t)
-      (objects number parent (directory mode) name can free) (fun_ext (λ m. bytes number parent (directory mode) name can free m ∙ as_before number parent (directory mode) name can free bytes_of_node refl refl m)) (fun_ext (modes number parent (directory mode) name can free)) refl
+      (objects number parent (directory mode) name can free) (fun_ext (λ m. bytes number parent (directory mode) name can free m ∙ as_before number parent (directory mode) name can free bytes_of_node refl refl m)) (fun_ext (attributes number parent (directory mode) name can free)) refl
   makes_tree number parent (symbolic_link text) name can free =
       trees_same (tree_of (created number parent name (node_of (symbolic_link text)) v) table) (with_made (symbolic_link text) (q number parent (symbolic_link text) name can free) number t)
       (objects number parent (symbolic_link text) name can free) (fun_ext (λ m. bytes number parent (symbolic_link text) name can free m ∙ as_before number parent (symbolic_link text) name can free bytes_of_node refl refl m))
-      (fun_ext (λ m. modes number parent (symbolic_link text) name can free m ∙ as_before number parent (symbolic_link text) name can free mode_of refl refl m)) refl
+      (fun_ext (attributes number parent (symbolic_link text) name can free)) refl
 
   -- one more name
   module _ (number parent : ℕ) (name : Name) (can : CanLink limits v number parent name) where
@@ -338,7 +345,7 @@ module _ (limits : Limits) (v : Volume) (volume : IsVolume limits v) (table : �
       trees_same (tree_of linked_now table) (record t { objects = put_at (link_place.0 ++ name ∷ []) (Some (trees.file number)) t.objects })
           (objects-linked v graph link_place.0 name parent table link_place.1 can.takes.directory number can.takes.missing (ap is_file_node can.file)
           ∙ ap (λ o. put_at (link_place.0 ++ name ∷ []) o t.objects) (node_file number (v number) (ap is_file_node can.file)))
-          (fun_ext (λ m. (link_kept m).bytes)) (fun_ext (λ m. (link_kept m).mode)) refl,
+          (fun_ext (λ m. (link_kept m).bytes)) (fun_ext (λ m. (link_kept m).attributes)) refl,
     )
 
     linked_named : (m : ℕ) → (is_orphan (linked_now m) ≡ false) ⊎ (is_orphan (linked_now m) ≡ is_orphan (v m))
@@ -366,7 +373,7 @@ module _ (limits : Limits) (v : Volume) (volume : IsVolume limits v) (table : �
         is_at place.0 parent place.1 is,
         swept_from (unnamed parent name v) (volume-unnamed v graph place.0 name parent can.number place.1 is can.there can.empty) table mounted.bounded (without_object (place.0 ++ name ∷ []) t)
             (objects-unnamed v graph place.0 name parent table place.1 is can.number can.there can.empty) refl
-            (λ m used. let same = unnamed_used v graph place.0 name parent can.number place.1 is can.there can.empty table mounted.files m used in (same.bytes, same.mode)),
+            (λ m used. let same = unnamed_used v graph place.0 name parent can.number place.1 is can.there can.empty table mounted.files m used in (same.bytes, same.attributes)),
       )
   changes_tree (rename parent name new_parent new_name) can free =
       let from = from_path v graph parent name new_parent new_name can in
@@ -380,7 +387,9 @@ module _ (limits : Limits) (v : Volume) (volume : IsVolume limits v) (table : �
       )
   changes_tree (write number offset bytes) can free = ap (λ w. tree_of w table) (bytes_swept limits v volume table mounted number (written offset bytes) can.0) ∙ bytes_tree limits v volume table mounted number (written offset bytes) can.0
   changes_tree (truncate number size) can free = ap (λ w. tree_of w table) (bytes_swept limits v volume table mounted number (resized size) can.0) ∙ bytes_tree limits v volume table mounted number (resized size) can.0
-  changes_tree (change_mode number mode) can free = ap (λ w. tree_of w table) (modes_swept limits v volume table mounted number mode can.0) ∙ modes_tree limits v volume table mounted number mode can.0
+  changes_tree (change_mode number mode) can free =
+      let there = either_there (v number) can.0 in
+      ap (λ w. tree_of w table) (changed_swept limits v volume table mounted number (set_mode mode) there) ∙ changed_tree limits v volume table mounted number (set_mode mode) there
   changes_tree (set_file number mode size) can free = set_tree limits v volume table mounted number mode size can
 
   -- what was a file is one still
@@ -399,7 +408,7 @@ module _ (limits : Limits) (v : Volume) (volume : IsVolume limits v) (table : �
   files_stay (truncate number size) can free n is =
       by_node limits v volume table mounted number (with_file_bytes (resized size) (v number)) (bytes_names (resized size) (v number)) (bytes_object limits v volume table mounted (resized size) (v number)) (bytes_orphan (resized size) (v number)) is_file_node (bytes_by is_file_node (λ attributes links a b. refl) (resized size) (v number)) n ∙ is
   files_stay (change_mode number mode) can free n is =
-      by_node limits v volume table mounted number (with_node_mode mode (v number)) (mode_names mode (v number)) (mode_object limits v volume table mounted mode (v number)) (mode_orphan mode (v number)) is_file_node (mode_file mode (v number)) n ∙ is
+      by_node limits v volume table mounted number (with_node_attributes (set_mode mode) (v number)) (attributes_names (set_mode mode) (v number)) (attributes_object limits v volume table mounted (set_mode mode) (v number)) (attributes_orphan (set_mode mode) (v number)) is_file_node (attributes_file (set_mode mode) (v number)) n ∙ is
   files_stay (set_file number mode size) can free n is = set_files limits v volume table mounted number mode size can n is
 
 pub records_change_trees : RecordsChangeTrees

@@ -8,7 +8,7 @@ use Rattle.std.proofs.lemmas.List.Elements.{All-push, All-append, All-from_recur
 use Rattle.model.specs.declared.limits.Limits.{Limits}
 use Rattle.model.specs.Counting.{Counts, CountsUpTo}
 use Rattle.model.specs.Paths.{Name, Path, IsName, behind}
-use Rattle.model.specs.Trees.{Tree, Object, directory, symlink, file, number_of_object, is_directory, StandsAtPath, IsOpen, IsUsed}
+use Rattle.model.specs.Trees.{Tree, Object, symlink, file, number_of_object, is_directory, StandsAtPath, IsOpen, IsUsed}
 use Rattle.model.specs.Edits.{put_at, relocate, relocated, moved, without_object}
 use Rattle.model.proofs.CountLemmas.{same_count, count_along, one_more, one_less}
 use Rattle.model.proofs.ListingLemmas.{names_apart}
@@ -141,6 +141,10 @@ module _ (limits : Limits) (t : Tree) (tree : IsLooseTree limits t) (u w : Path)
   used_was : (n : ℕ) → IsUsed new n → IsUsed t n
   used_was n (inl (r, x, is, same)) = inl (from r, x, (came r x is).0, same)
   used_was n (inr open_file) = inr open_file
+
+  used_now : (n : ℕ) → IsUsed t n → IsUsed new n
+  used_now n (inl (r, x, is, same)) = inl (to r, x, (went r x is).0, same)
+  used_now n (inr open_file) = inr open_file
 
   file_was : (n : ℕ) → StandsAtPath new file n ⊎ IsOpen new n → StandsAtPath t file n ⊎ IsOpen t n
   file_was n (inl there) = inl (stood file n there)
@@ -283,19 +287,16 @@ module _ (limits : Limits) (t : Tree) (tree : IsLooseTree limits t) (u w : Path)
       names = names_new;
       single = single_new;
       bytes = λ n there. tree.bytes n (file_was n there);
-      mode = λ n there. tree.mode n (elim there [ inl one ↦ inl (stood directory n one) | inr others ↦ inr (file_was n others) ]);
+      attributes = λ n used. tree.attributes n (used_was n used);
       loose_bytes = λ n some. elim (tree.loose_bytes n some) [ inl there ↦ inl (file_now n there) | inr unused ↦ inr (λ used. unused (used_was n used)) ];
-      loose_mode = λ n some. elim (tree.loose_mode n some) [
-        | inl there ↦ inl (elim there [ inl one ↦ inl (stands_now directory n one) | inr others ↦ inr (file_now n others) ])
-        | inr unused ↦ inr (λ used. unused (used_was n used))
-      ];
+      loose_attributes = λ n some. elim (tree.loose_attributes n some) [ inl used ↦ inl (used_now n used) | inr unused ↦ inr (λ used. unused (used_was n used)) ];
       opened = λ n r x open_file at_r same. tree.opened n (from r) x open_file (came r x at_r).0 same;
       numbers = λ n used. tree.numbers n (used_was n used);
       texts = λ r n text is. tree.texts (from r) n text (came r (symlink n text) is).0;
       children = children_new;
       links = links_new;
       sizes = tree.sizes;
-      bits = tree.bits;
+      fit = tree.fit;
       table = tree.table;
       offsets = tree.offsets;
     }

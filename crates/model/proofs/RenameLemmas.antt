@@ -49,7 +49,7 @@ module _ (v : Volume) (volume : IsGraph v) (table : ℕ → Option Description) 
   renamed_swept =
       swept_from new (volume-renamed v volume u w a b d k n at_d at_k there d_is k_is empty outside other distinct good) table bounded (moved p q t)
       (objects-renamed v volume u w a b d k n at_d at_k there d_is k_is empty outside other table) refl
-      (λ m used. let same = used_kept m used in (same.bytes, same.mode))
+      (λ m used. let same = used_kept m used in (same.bytes, same.attributes))
 
   -- where its tests pass, `rename` is done by its record and a sweep
   pub rename_done : (limits : Limits) (o : Object) → (path_eq p q || is_same_file o (t.objects q)) ≡ false → first_refusal (move_tests p o q (t.objects q)) ≡ None → ((rest : Outcome) → rest Done (tree_of (swept table new) table) (logs adds_name) → with_target limits t p q (t.objects q) rest Done (tree_of (swept table new) table) (logs adds_name)) → moves limits t p o q Done (tree_of (swept table new) table) (logs adds_name)

@@ -12,7 +12,7 @@ use Rattle.model.specs.declared.command.Settings.{Settings}
 use Rattle.model.specs.declared.command.Whence.{Whence}
 use Rattle.model.specs.Limits.{AreLimits}
 use Rattle.model.specs.Paths.{Name, Path, Tests, first_refusal, text_tests_then, is_empty, is_number_alone, parts_behind, start_number, starts_at_number}
-use Rattle.model.specs.Trees.{Tree, Object, directory, symlink, file, Description, HasNumber, StandsAtPath, IsOpen, IsTree, number_of_object}
+use Rattle.model.specs.Trees.{Tree, Object, directory, symlink, file, Description, HasNumber, HasPath, StandsAtPath, IsOpen, IsUsed, IsTree, number_of_object}
 use Rattle.model.specs.Edits.{contents, resized, written, read_at, with_mode, with_bytes, with_descriptor}
 use Rattle.model.specs.Resolution.{Resolution, named, missing, refused, resolve, resolve_within}
 use Rattle.model.specs.Room.{Need}
@@ -21,7 +21,7 @@ use Rattle.model.specs.Reading as reading
 use Rattle.model.specs.Changing as changing
 use Rattle.model.specs.Descriptors as descriptors
 use Rattle.model.proofs.LeadLemmas.{AllPass, all_passed, IsReached, Misses, AnswersWell, reached_well}
-use Rattle.model.proofs.LooseLemmas.{IsLooseTree, swept_is_tree, closed_is_loose, bytes_keep, mode_keeps, held_is_tree}
+use Rattle.model.proofs.LooseLemmas.{IsLooseTree, swept_is_tree, closed_is_loose, bytes_keep, mode_keeps, held_is_tree, used_file}
 use Rattle.model.proofs.OptionLaws.{none_some, some_same}
 use Rattle.model.proofs.EditLaws.{length-resized, written_short}
 
@@ -216,6 +216,9 @@ module _ (limits : Limits) (t : Tree) (tree : IsTree limits t) where
   pub kind_stands : (kind : ℕ → Object) (o : Object) (n : ℕ) → o ≡ kind n → HasNumber t (number_of_object o) o → StandsAtPath t kind n
   kind_stands kind o n is (p, at_p, number) = (p, at_p ∙ ap (λ r. Some r) is)
 
+  object_stands : (o : Object) (n : ℕ) → number_of_object o ≡ n → HasNumber t (number_of_object o) o → HasPath t n
+  object_stands o n is (p, at_p, number) = (p, o, at_p, is)
+
   stays_truncated : (n size : ℕ) → StandsAtPath t file n ⊎ IsOpen t n → size ≤ limits.file_bytes → LeavesTree limits (changing.truncates_file t n size)
   stays_truncated n size stands few = stays_changed reply.Done (changing.truncated_to n size t) (changing.need_of_truncate n size t) (truncated_is n size stands few).is
 
@@ -227,11 +230,11 @@ module _ (limits : Limits) (t : Tree) (tree : IsTree limits t) where
   pub stays_chmod : (path : List ℕ) (mode : ℕ) → mode ≤ MODE_BITS → LeavesTree limits (changing.changes_mode limits t path mode)
   stays_chmod path mode few =
       stays_at [] true path _ (λ p o pass has. stays_by_kind o _ _ _
-      (λ n is. stays_changed _ (with_mode n mode t) _ (mode_keeps limits t n mode tree (inl (kind_stands (λ k. directory k) o n is has)) few))
+      (λ n is. stays_changed _ (with_mode n mode t) _ (mode_keeps limits t n mode tree (inl (object_stands o n (ap number_of_object is) has)) few))
       (λ n text is. stays_never)
-      (λ n is. stays_changed _ (with_mode n mode t) _ (mode_keeps limits t n mode tree (inr (inl (kind_stands (λ k. file k) o n is has))) few)))
+      (λ n is. stays_changed _ (with_mode n mode t) _ (mode_keeps limits t n mode tree (inl (object_stands o n (ap number_of_object is) has)) few)))
 
-  stays_sets_mode : (n : ℕ) (mode : Option ℕ) → StandsAtPath t directory n ⊎ StandsAtPath t file n ⊎ IsOpen t n → IfSome mode (λ bits. bits ≤ MODE_BITS) → LeavesTree limits (changing.sets_mode t n mode)
+  stays_sets_mode : (n : ℕ) (mode : Option ℕ) → IsUsed t n → IfSome mode (λ bits. bits ≤ MODE_BITS) → LeavesTree limits (changing.sets_mode t n mode)
   stays_sets_mode n None stands few = stays_same _
   stays_sets_mode n (Some mode) stands few = stays_changed _ (with_mode n mode t) _ (mode_keeps limits t n mode tree stands few)
 
@@ -240,11 +243,11 @@ module _ (limits : Limits) (t : Tree) (tree : IsTree limits t) where
       let sized : Tree = with_bytes n (resized size (contents t n)) t in
       let is : IsTree limits sized = bytes_keep limits t n (resized size (contents t n)) tree (inl stands) (subst (λ k. k ≤ limits.file_bytes) (sym (length-resized size (contents t n))) fits) in
       stays_either (size == length (contents t n)) _ _
-      (λ e. stays_changed _ (with_mode n mode t) _ (mode_keeps limits t n mode tree (inr (inl stands)) few))
-      (λ e. stays_changed _ (with_mode n mode sized) _ (mode_keeps limits sized n mode is (inr (inl stands)) few))
+      (λ e. stays_changed _ (with_mode n mode t) _ (mode_keeps limits t n mode tree (used_file t n (inl stands)) few))
+      (λ e. stays_changed _ (with_mode n mode sized) _ (mode_keeps limits sized n mode is (used_file t n (inl stands)) few))
 
   stays_sets_file : (n : ℕ) (mode : Option ℕ) (size : Option ℤ) → StandsAtPath t file n → IfSome mode (λ bits. bits ≤ MODE_BITS) → IfSome size (λ s. nat_abs s ≤ limits.file_bytes) → LeavesTree limits (changing.sets_file t n mode size)
-  stays_sets_file n mode None stands few fits = stays_sets_mode n mode (inr (inl stands)) few
+  stays_sets_file n mode None stands few fits = stays_sets_mode n mode (used_file t n (inl stands)) few
   stays_sets_file n None (Some size) stands few fits = stays_truncated n (nat_abs size) (inl stands) fits
   stays_sets_file n (Some mode) (Some size) stands few fits = stays_sets_both n mode (nat_abs size) stands few fits
 
@@ -255,7 +258,7 @@ module _ (limits : Limits) (t : Tree) (tree : IsTree limits t) where
   pub stays_set : (path : List ℕ) (settings : Settings) → IfSome settings.mode (λ bits. bits ≤ MODE_BITS) → LeavesTree limits (changing.sets limits t path settings)
   stays_set path settings few =
       stays_at (changing.given_size_tests limits settings.size) true path _ (λ p o pass has. stays_by_kind o _ _ _
-      (λ n is. stays_passed ((is_some settings.size, EISDIR) ∷ []) _ (λ passed. stays_sets_mode n settings.mode (inl (kind_stands (λ k. directory k) o n is has)) few))
+      (λ n is. stays_passed ((is_some settings.size, EISDIR) ∷ []) _ (λ passed. stays_sets_mode n settings.mode (inl (object_stands o n (ap number_of_object is) has)) few))
       (λ n text is. stays_never)
       (λ n is. stays_sets_file n settings.mode settings.size (kind_stands (λ k. file k) o n is has) few (fits_given path settings.size pass)))
 

@@ -7,7 +7,7 @@ use Rattle.model.specs.declared.attributes.Attributes.{Attributes}
 use Rattle.model.specs.Paths.{Name, Path}
 use Rattle.model.specs.Trees.{Tree, Object, number_of_object, Description, IsUsed}
 use Rattle.model.specs.Edits.{IsSwept}
-use Rattle.model.specs.Volumes.{Node, directory_node, file_node, link_node, Volume, Entries, names_in, entries, enter, number_at, object_of, object_at, bytes_of_node, mode_of, tree_of, is_file_node, is_directory_node, IsGraph, HasNames, is_numbered, is_open, swept_node, swept}
+use Rattle.model.specs.Volumes.{Node, directory_node, file_node, link_node, Volume, Entries, names_in, entries, enter, number_at, object_of, object_at, bytes_of_node, attributes_of, tree_of, is_file_node, is_directory_node, IsGraph, HasNames, is_numbered, is_open, swept_node, swept}
 use Rattle.model.proofs.WalkLemmas.{number_at-push}
 use Rattle.model.proofs.VolumeLemmas.{ends, directory_some, enters_directory, directory_no_file, last_step}
 use Rattle.model.proofs.ObjectLaws.{object_number}
@@ -132,12 +132,12 @@ module _ (v : Volume) (volume : IsGraph v) (table : ℕ → Option Description) 
   not_unused n stays = used_by n (v n) refl stays
 
   -- a tree with these objects and these bytes of what is used, swept
-  pub swept_from : (old : Tree) → (tree_of v table).objects ≡ old.objects → old.descriptors ≡ table → ((n : ℕ) → IsUsed (tree_of v table) n → (bytes_of_node (v n) ≡ old.bytes n) × (mode_of (v n) ≡ old.mode n)) → IsSwept old (tree_of (swept table v) table)
+  pub swept_from : (old : Tree) → (tree_of v table).objects ≡ old.objects → old.descriptors ≡ table → ((n : ℕ) → IsUsed (tree_of v table) n → (bytes_of_node (v n) ≡ old.bytes n) × (attributes_of (v n) ≡ old.attributes n)) → IsSwept old (tree_of (swept table v) table)
   swept_from old objects descriptors same = record {
     objects = objects-swept ∙ objects;
     descriptors = sym descriptors;
-    kept = λ n used. let here = of_old n used in (ap bytes_of_node (used_stays n here) ∙ (same n here).0, ap mode_of (used_stays n here) ∙ (same n here).1);
-    gone = λ n unused. let none = none_from (swept_node (is_open table OPEN_FILES n) (v n)) (λ stays. unused (to_old n (not_unused n stays))) in (ap bytes_of_node none, ap mode_of none);
+    kept = λ n used. let here = of_old n used in (ap bytes_of_node (used_stays n here) ∙ (same n here).0, ap attributes_of (used_stays n here) ∙ (same n here).1);
+    gone = λ n unused. let none = none_from (swept_node (is_open table OPEN_FILES n) (v n)) (λ stays. unused (to_old n (not_unused n stays))) in (ap bytes_of_node none, ap attributes_of none);
   }
     where
       of_old : (n : ℕ) → IsUsed old n → IsUsed (tree_of v table) n

@@ -4,15 +4,14 @@ use Rattle.std.proofs.lemmas.List.{same_from_push}
 use Rattle.model.specs.declared.limits.Limits.{Limits}
 use Rattle.model.specs.Counting.{CountsUpTo}
 use Rattle.model.specs.Paths.{Name, Path}
-use Rattle.model.specs.Trees.{Tree, Object, directory, symlink, file, is_directory, StandsAtPath, IsOpen, IsUsed, IsTree}
+use Rattle.model.specs.Trees.{Tree, Object, symlink, file, number_of_object, is_directory, StandsAtPath, IsOpen, IsUsed, IsTree}
 use Rattle.model.specs.Edits.{without_object}
 use Rattle.model.proofs.CountLemmas.{same_count, one_less}
 use Rattle.model.proofs.ListingLemmas.{names_apart}
 use Rattle.model.proofs.VolumeLemmas.{ends}
 use Rattle.model.proofs.OnceLemmas.{path_apart}
-use Rattle.model.proofs.LooseLemmas.{IsLooseTree, tree_is_loose, all_files, decided}
+use Rattle.model.proofs.LooseLemmas.{IsLooseTree, tree_is_loose, all_files, decided, used_file}
 use Rattle.model.proofs.PlaceLemmas.{put-here, put-other, below_leaf, file_or_not}
-use Rattle.model.proofs.ObjectLaws.{directory_file}
 use Rattle.model.proofs.OptionLaws.{none_some, some_same, absent}
 
 pub no_directory : {Y : Type 0} (r : Option Object) → r ≡ None → is_directory r ≡ true → Y
@@ -82,20 +81,28 @@ module _ (limits : Limits) (old : Tree) (tree : IsTree limits old) (p : Path) (o
   still : (n : ℕ) → StandsAtPath old file n ⊎ IsOpen old n → (StandsAtPath new file n ⊎ IsOpen new n) ⊎ (¬ IsUsed new n)
   still n stands = decided limits new n (links_new n) tree.table (λ q r at_q same. all_files limits old (tree_is_loose limits old tree) n stands q r (found_in q r at_q).1 same)
 
-  -- the directory that was taken away isn't used any more
-  unused : (n : ℕ) → old.objects p ≡ Some (directory n) → ¬ IsUsed new n
-  unused n is (inl (q, r, at_q, same)) =
+  -- but for a file, what was taken away isn't used any more
+  unused : (n : ℕ) → number_of_object o ≡ n → o ≢ file n → ¬ IsUsed new n
+  unused n is other (inl (q, r, at_q, same)) =
       let before = found_in q r at_q in
-      elim (tree.single p q (directory n) r is before.1 (sym same)) [ inl one ↦ before.0 (sym one) | inr both ↦ directory_file both.0 ]
-  unused n is (inr open_file) = directory_file (tree.opened n p (directory n) open_file is refl)
+      elim (tree.single p q o r at_p before.1 (is ∙ sym same)) [ inl one ↦ before.0 (sym one) | inr both ↦ other (both.0 ∙ ap file is) ]
+  unused n is other (inr open_file) = other (tree.opened n p o open_file at_p is)
 
-  mode_still : (n : ℕ) → StandsAtPath old directory n ⊎ StandsAtPath old file n ⊎ IsOpen old n → (StandsAtPath new directory n ⊎ StandsAtPath new file n ⊎ IsOpen new n) ⊎ (¬ IsUsed new n)
-  mode_still n (inl (q, is)) =
+  attributes_still : (n : ℕ) → IsUsed old n → IsUsed new n ⊎ (¬ IsUsed new n)
+  attributes_still n (inl (q, r, is, same)) =
       elim (path_apart q p) [
-        | inl e ↦ inr (unused n (ap old.objects (sym e) ∙ is))
-        | inr e ↦ inl (inl (q, stays q e ∙ is))
+        | inl e ↦
+            let here : r ≡ o = some_same (sym is ∙ ap old.objects e ∙ at_p) in
+            elim (file_or_not o n) [
+              | inl a_file ↦ of_file n (inl (p, at_p ∙ ap (λ x. Some x) a_file))
+              | inr other ↦ inr (unused n (ap number_of_object (sym here) ∙ same) other)
+            ]
+        | inr e ↦ inl (inl (q, r, stays q e ∙ is, same))
       ]
-  mode_still n (inr others) = elim (still n others) [ inl stands ↦ inl (inr stands) | inr free ↦ inr free ]
+    where
+      of_file : (n : ℕ) → StandsAtPath old file n ⊎ IsOpen old n → IsUsed new n ⊎ (¬ IsUsed new n)
+      of_file n stands = elim (still n stands) [ inl there ↦ inl (used_file new n there) | inr free ↦ inr free ]
+  attributes_still n (inr open_file) = elim (still n (inr open_file)) [ inl there ↦ inl (used_file new n there) | inr free ↦ inr free ]
 
   children_new : (q : Path) → is_directory (new.objects q) ≡ true → CountsUpTo limits.directory_names (λ x. IsSome (new.objects (q ++ x ∷ [])))
   children_new q is =
@@ -139,16 +146,16 @@ module _ (limits : Limits) (old : Tree) (tree : IsTree limits old) (p : Path) (o
     names = λ q some. tree.names q (some_in q some).1;
     single = λ q s r x at_q at_s same. tree.single q s r x (found_in q r at_q).1 (found_in s x at_s).1 same;
     bytes = λ n stands. (tree.bytes n).1 (file_was n stands);
-    mode = λ n stands. (tree.mode n).1 (elim stands [ inl there ↦ inl (there.0, (found_in there.0 (directory n) there.1).1) | inr others ↦ inr (file_was n others) ]);
+    attributes = λ n used. (tree.attributes n).1 (used_was n used);
     loose_bytes = λ n some. still n ((tree.bytes n).0 some);
-    loose_mode = λ n some. mode_still n ((tree.mode n).0 some);
+    loose_attributes = λ n some. attributes_still n ((tree.attributes n).0 some);
     opened = λ n q r open_file at_q same. tree.opened n q r open_file (found_in q r at_q).1 same;
     numbers = λ n used. tree.numbers n (used_was n used);
     texts = λ q n text is. tree.texts q n text (found_in q (symlink n text) is).1;
     children = children_new;
     links = links_new;
     sizes = tree.sizes;
-    bits = tree.bits;
+    fit = tree.fit;
     table = tree.table;
     offsets = tree.offsets;
   }

@@ -13,9 +13,12 @@ use Rattle.std.proofs.lemmas.Slice.Eq.{bytes_eq-Decides}
 use Rattle.std.proofs.lemmas.Cmp.{nat_list_eq_equiv}
 use Rattle.std.proofs.lemmas.Map.Views.{list_any-from_Contains, Contains-from_any}
 use Rattle.model.specs.declared.limits.Limits.{Limits}
+use Rattle.model.specs.declared.attributes.Attributes.{Attributes}
+use Rattle.model.specs.declared.limits.TheConstants.{LINK_MODE}
+use Rattle.model.specs.Attributes.{new_attributes}
 use Rattle.model.specs.Paths.{Name, Path, path_eq, behind}
 use Rattle.model.specs.Trees.{Tree, Object, directory, symlink, file, number_of_object, Description, HasPath, IsUsed, root_alone}
-use Rattle.model.specs.Edits.{with_directory, with_file, put_at, relocate, moved, IsSwept}
+use Rattle.model.specs.Edits.{with_attributes, with_directory, with_file, with_symlink, put_at, relocate, moved, IsSwept}
 use Rattle.model.specs.Counting.{Counts}
 use Rattle.model.specs.Outcomes.{IsListing, IsFresh}
 use Rattle.model.specs.States.{ForgetsOpenFiles}
@@ -28,11 +31,11 @@ within n numbers = list_any (λ k. n == k) numbers
 abbrev holds : Path → List Path → Bool
 holds p paths = list_any (path_eq p) paths
 
--- the paths where something may stand, the descriptors that may be open, and the numbers that may have bytes or a mode
+-- the paths where something may stand, the descriptors that may be open, and the numbers that may have bytes or attributes
 pub record Told (t : Tree) (paths : List Path) (open_ones : List ℕ) (numbers : List ℕ) : Type 0 where
   pub objects : (p : Path) → IsSome (t.objects p) → holds p paths ≡ true
   pub descriptors : (d : ℕ) → IsSome (t.descriptors d) → within d open_ones ≡ true
-  pub maps : (n : ℕ) → within n numbers ≡ false → (t.bytes n ≡ None) × (t.mode n ≡ None)
+  pub maps : (n : ℕ) → within n numbers ≡ false → (t.bytes n ≡ None) × (t.attributes n ≡ None)
 
 nothing_there : {Y : Type 0} → false ≡ true → Y
 nothing_there e = absurd (false≢true e)
@@ -41,7 +44,7 @@ pub told_root : (mode : ℕ) → Told (root_alone mode) ([] ∷ []) [] (3 ∷ []
 told_root mode = record {
   objects = λ p. cond_both (path_eq p []) (Some (directory 3)) None (λ (r : Option Object). IsSome r → holds p ([] ∷ []) ≡ true) (λ e some. or_left (path_eq p []) false e) (λ e some. nothing_there some);
   descriptors = λ d some. nothing_there some;
-  maps = λ n out. (refl, cond_both (n == 3) (Some mode) None (λ (r : Option ℕ). r ≡ None) (λ e. absurd (false≢true (sym (or_parts (n == 3) false out).0 ∙ e))) (λ e. refl));
+  maps = λ n out. (refl, cond_both (n == 3) (Some (new_attributes mode)) None (λ (r : Option Attributes). r ≡ None) (λ e. absurd (false≢true (sym (or_parts (n == 3) false out).0 ∙ e))) (λ e. refl));
 }
 
 module _ {t : Tree} {paths : List Path} {open_ones numbers : List ℕ} (told : Told t paths open_ones numbers) where
@@ -63,13 +66,13 @@ module _ {t : Tree} {paths : List Path} {open_ones numbers : List ℕ} (told : T
   other_number : {X : Type 0} (n k : ℕ) (v w : Option X) → within k (n ∷ numbers) ≡ false → w ≡ None → (if k == n then v else w) ≡ None
   other_number {X} n k v w out none = cond_both (k == n) v w (λ (r : Option X). r ≡ None) (λ e. absurd (false≢true (sym (or_parts (k == n) (within k numbers) out).0 ∙ e))) (λ e. none)
 
-  pub told_mode : (n mode : ℕ) → Told (record t { mode = λ k. if k == n then Some mode else t.mode k }) paths open_ones (n ∷ numbers)
-  told_mode n mode = record {
+  pub told_attributes : (n : ℕ) (a : Attributes) → Told (with_attributes n a t) paths open_ones (n ∷ numbers)
+  told_attributes n a = record {
     objects = told.objects;
     descriptors = told.descriptors;
     maps = λ k out.
         let none = told.maps k (or_parts (k == n) (within k numbers) out).1 in
-        (none.0, other_number n k (Some mode) (t.mode k) out none.1);
+        (none.0, other_number n k (Some a) (t.attributes k) out none.1);
   }
 
   pub told_bytes : (n : ℕ) (bytes : List ℕ) → Told (record t { bytes = λ k. if k == n then Some bytes else t.bytes k }) paths open_ones (n ∷ numbers)
@@ -84,10 +87,13 @@ module _ {t : Tree} {paths : List Path} {open_ones numbers : List ℕ} (told : T
 -- a new directory, and a new file of no bytes
 module _ {t : Tree} {paths : List Path} {open_ones numbers : List ℕ} (told : Told t paths open_ones numbers) where
   pub told_directory : (p : Path) (n mode : ℕ) → Told (with_directory p n mode t) (p ∷ paths) open_ones (n ∷ numbers)
-  told_directory p n mode = told_object (told_mode told n mode) p (Some (directory n))
+  told_directory p n mode = told_object (told_attributes told n (new_attributes mode)) p (Some (directory n))
 
   pub told_file : (p : Path) (n mode : ℕ) → Told (with_file p n mode t) (p ∷ paths) open_ones (n ∷ n ∷ numbers)
-  told_file p n mode = told_object (told_mode (told_bytes told n []) n mode) p (Some (file n))
+  told_file p n mode = told_object (told_attributes (told_bytes told n []) n (new_attributes mode)) p (Some (file n))
+
+  pub told_symlink : (p : Path) (n : ℕ) (text : List ℕ) → Told (with_symlink p n text t) (p ∷ paths) open_ones (n ∷ numbers)
+  told_symlink p n text = told_object (told_attributes told n (new_attributes LINK_MODE)) p (Some (symlink n text))
 
 -- a test that holds of a path holds of one of a list that has it
 found_among : (test : Path → Bool) (p : Path) (paths : List Path) → holds p paths ≡ true → test p ≡ true → list_any test paths ≡ true
@@ -255,9 +261,9 @@ used_below t paths open_ones m all k low high =
     let e : 4 + (k - 4) ≡ k = omega (arith, low) in
     used_from t paths open_ones k (subst (λ j. is_used t paths open_ones j ≡ true) e (all_used t paths open_ones m (k - 4) all (omega (arith, low, high))))
 
--- the tree without the bytes and the mode of a number
+-- the tree without the bytes and the attributes of a number
 abbrev pub dropped : ℕ → Tree → Tree
-dropped n t = record t { bytes = λ k. if k == n then None else t.bytes k; mode = λ k. if k == n then None else t.mode k }
+dropped n t = record t { bytes = λ k. if k == n then None else t.bytes k; attributes = λ k. if k == n then None else t.attributes k }
 
 module _ {t : Tree} {paths : List Path} {open_ones numbers : List ℕ} (told : Told t paths open_ones numbers) where
   pub listing_told : (p : Path) (names : List Name) → lists t paths p names ≡ true → IsListing t p names
@@ -297,15 +303,15 @@ module _ {t : Tree} {paths : List Path} {open_ones numbers : List ℕ} (told : T
     kept = λ k used.
         let not_this : (k == n) ≡ true → ⊥ = λ e. false≢true (sym free ∙ subst (λ j. is_used t paths open_ones j ≡ true) (eqb-true k n e) (used_told k used)) in (
           cond_both (k == n) None (t.bytes k) (λ (r : Option (List ℕ)). r ≡ t.bytes k) (λ e. absurd (not_this e)) (λ e. refl),
-          cond_both (k == n) None (t.mode k) (λ (r : Option ℕ). r ≡ t.mode k) (λ e. absurd (not_this e)) (λ e. refl),
+          cond_both (k == n) None (t.attributes k) (λ (r : Option Attributes). r ≡ t.attributes k) (λ e. absurd (not_this e)) (λ e. refl),
         );
     gone = λ k unused. (
       cond_both (k == n) None (t.bytes k) (λ (r : Option (List ℕ)). r ≡ None) (λ e. refl) (λ e. (lost k unused e).0),
-      cond_both (k == n) None (t.mode k) (λ (r : Option ℕ). r ≡ None) (λ e. refl) (λ e. (lost k unused e).1),
+      cond_both (k == n) None (t.attributes k) (λ (r : Option Attributes). r ≡ None) (λ e. refl) (λ e. (lost k unused e).1),
     );
   }
     where
-      lost : (k : ℕ) → ¬ IsUsed t k → (k == n) ≡ false → (t.bytes k ≡ None) × (t.mode k ≡ None)
+      lost : (k : ℕ) → ¬ IsUsed t k → (k == n) ≡ false → (t.bytes k ≡ None) × (t.attributes k ≡ None)
       lost k unused other = elim (cases_Bool (within k numbers)) [
         | inr out ↦ told.maps k out
         | inl there ↦ absurd (unused (used_from t paths open_ones k (elim (or_cases (k == n) (is_used t paths open_ones k) (passed_within (λ j. j == n || is_used t paths open_ones j) k numbers there all)) [ inl e ↦ absurd (false≢true (sym other ∙ e)) | inr is ↦ is ])))
@@ -318,7 +324,7 @@ module _ {t : Tree} {paths : List Path} {open_ones numbers : List ℕ} (told : T
     maps = λ k out.
         let none = told.maps k out in (
           cond_both (k == n) None (t.bytes k) (λ (r : Option (List ℕ)). r ≡ None) (λ e. refl) (λ e. none.0),
-          cond_both (k == n) None (t.mode k) (λ (r : Option ℕ). r ≡ None) (λ e. refl) (λ e. none.1),
+          cond_both (k == n) None (t.attributes k) (λ (r : Option Attributes). r ≡ None) (λ e. refl) (λ e. none.1),
         );
   }
 

@@ -1,13 +1,19 @@
--- What an object has beside its kind, its count of names and its bytes: its mode. Each later field
--- of an object, such as its owner or its times, is a field here, of `new_attributes` and
+-- What an object has beside its kind, its count of names and its bytes: its mode, its owner and group, its
+-- times and its generation. Each later field of an object is a field here, of `new_attributes` and
 -- `AreAttributes`, and gets a lens beside `set_mode`.
-use Rattle.std.specs.Prelude.{ℕ, ◌≤◌}
-use Rattle.model.specs.declared.limits.TheConstants.{MODE_BITS}
+use Rattle.std.specs.Prelude.{ℕ, ◌≡◌, ◌≤◌, Bool, IsFalse, pos, FitsSigned}
+use Rattle.std.specs.Int.{w64}
+use Rattle.model.specs.declared.limits.TheConstants.{GREATEST_OWNER, MODE_BITS, MOST_CREATIONS, MOST_NANOSECONDS}
 use Rattle.model.specs.declared.attributes.Attributes.{Attributes}
+use Rattle.model.specs.declared.time.Time.{Time}
 
--- the attributes of a new object of this mode
+-- the time of an object that has none
+abbrev pub epoch : Time
+epoch = record { seconds = pos 0; nanoseconds = 0 }
+
+-- the attributes of a new object of this mode, where a file system keeps nothing else
 abbrev pub new_attributes : ℕ → Attributes
-new_attributes mode = record { mode = mode }
+new_attributes mode = record { mode = mode; owner = 0; group = 0; modified = epoch; changed = epoch; generation = 0 }
 
 -- what the file system's own files have, and free inodes
 abbrev pub no_attributes : Attributes
@@ -17,6 +23,25 @@ no_attributes = new_attributes 0
 abbrev pub set_mode : ℕ → Attributes → Attributes
 set_mode mode a = record a { mode = mode }
 
+-- the limits of a time
+pub record IsTime (t : Time) : Type 0 where
+  pub seconds : FitsSigned w64 t.seconds
+  pub nanoseconds : t.nanoseconds ≤ MOST_NANOSECONDS
+
 -- the limits of attributes
 pub record AreAttributes (a : Attributes) : Type 0 where
   pub mode : a.mode ≤ MODE_BITS
+  pub owner : a.owner ≤ GREATEST_OWNER
+  pub group : a.group ≤ GREATEST_OWNER
+  pub modified : IsTime a.modified
+  pub changed : IsTime a.changed
+  pub generation : a.generation ≤ MOST_CREATIONS
+
+-- all but the mode are zeros
+abbrev pub HaveOnlyMode : Attributes → Type 0
+HaveOnlyMode a = a ≡ new_attributes a.mode
+
+-- the attributes that an object may have on a file system that keeps all of them, or the mode alone
+pub record FitAttributes (has_attributes : Bool) (a : Attributes) : Type 0 where
+  pub limits : AreAttributes a
+  pub only_mode : IsFalse has_attributes → HaveOnlyMode a

@@ -3,7 +3,7 @@ use Rattle.std.specs.Prelude.{ℕ, ◌≡◌, Some, None, [], ◌∷◌, ◌++�
 use Rattle.model.specs.Paths.{Path}
 use Rattle.model.specs.Trees.{Tree}
 use Rattle.model.specs.Trees as trees
-use Rattle.model.specs.Edits.{contents, resized, written, with_object, without_object, with_mode, with_bytes, with_directory, with_file, moved, IsSwept}
+use Rattle.model.specs.Edits.{contents, resized, written, with_object, without_object, with_mode, with_bytes, with_directory, with_file, with_symlink, moved, IsSwept}
 use Rattle.model.specs.Volumes.{Volume}
 use Rattle.model.specs.Records.{Made, file, directory, symbolic_link, Change, create, link, remove_name, rename, write, truncate, change_mode, set_file}
 
@@ -15,7 +15,7 @@ IsAt t p n = t.objects p ≡ Some (trees.directory n)
 abbrev pub with_made : Made → Path → ℕ → Tree → Tree
 with_made (file mode) p n = with_file p n mode
 with_made (directory mode) p n = with_directory p n mode
-with_made (symbolic_link text) p n = with_object p (trees.symlink n text)
+with_made (symbolic_link text) p n = with_symlink p n text
 
 -- a record leads from one tree to the other, told by paths and in the words of the calls
 abbrev pub ChangesTree : Change → Tree → Tree → Type 0

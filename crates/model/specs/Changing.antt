@@ -8,7 +8,7 @@ use Rattle.model.specs.declared.reply.Reply.TheVariants.{Done}
 use Rattle.model.specs.declared.limits.Limits.{Limits}
 use Rattle.model.specs.Paths.{Path, Tests, text_tests, text_tests_then, new_text_tests, is_empty, is_root_text, begins_with, path_eq}
 use Rattle.model.specs.Trees.{Tree, Object, directory, symlink, file, is_directory}
-use Rattle.model.specs.Edits.{contents, resized, with_object, without_object, with_mode, with_bytes, with_directory, moved}
+use Rattle.model.specs.Edits.{contents, resized, with_object, without_object, with_mode, with_bytes, with_directory, with_symlink, moved}
 use Rattle.model.specs.Resolution.{parent}
 use Rattle.model.specs.Room.{Need, nothing, logs, adds_name, removes_name, changes_size, changes_bits}
 use Rattle.model.specs.Outcomes.{Outcome, answers, refuses, changes, changes_swept, tested, either, goes_along, goes_to, with_names, with_place, with_fresh, with_links}
@@ -34,7 +34,7 @@ link_text_tests limits text =
 -- `symlink`: a link of this text is made at a name that nothing has
 abbrev pub makes_symlink : Limits → Tree → List ℕ → List ℕ → Outcome
 makes_symlink limits t text path =
-    tested t (link_text_tests limits text) (creates limits t path (λ p n. with_object p (symlink n text)))
+    tested t (link_text_tests limits text) (creates limits t path (λ p n. with_symlink p n text))
 
 -- a name is taken away, and with the last one what it named, but for a file that is open
 abbrev pub removes : Tree → Path → Outcome

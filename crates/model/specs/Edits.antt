@@ -1,7 +1,10 @@
 -- What the changing calls make of a tree and of a file's bytes.
 use Rattle.std.specs.Prelude.{ℕ, ◌≡◌, ◌==◌, ◌+◌, ◌-◌, if◌then◌else◌, List, [], ◌++◌, length, take, drop, replicate, Option, Some, None, unwrap_or}
+use Rattle.model.specs.declared.attributes.Attributes.{Attributes}
+use Rattle.model.specs.declared.limits.TheConstants.{LINK_MODE}
+use Rattle.model.specs.Attributes.{new_attributes, no_attributes, set_mode}
 use Rattle.model.specs.Paths.{Path, path_eq, behind}
-use Rattle.model.specs.Trees.{Tree, Object, directory, file, Description, IsUsed}
+use Rattle.model.specs.Trees.{Tree, Object, directory, file, symlink, Description, IsUsed}
 
 -- bytes truncated, or filled with zeros, to this size
 abbrev pub resized : ℕ → List ℕ → List ℕ
@@ -19,6 +22,10 @@ read_at offset count bytes = take count (drop offset bytes)
 abbrev pub contents : Tree → ℕ → List ℕ
 contents t n = unwrap_or (t.bytes n) []
 
+-- the attributes of an object
+abbrev pub attributes_at : Tree → ℕ → Attributes
+attributes_at t n = unwrap_or (t.attributes n) no_attributes
+
 -- a map from paths with one path changed: something stands there, or nothing
 abbrev pub put_at : {X : Type 0} → Path → Option X → (Path → Option X) → Path → Option X
 put_at p o f q = if path_eq q p then o else f q
@@ -31,9 +38,17 @@ with_object p o t = record t { objects = put_at p (Some o) t.objects }
 abbrev pub without_object : Path → Tree → Tree
 without_object p t = record t { objects = put_at p None t.objects }
 
--- the tree with a mode at a number
+-- the tree with attributes at a number
+abbrev pub with_attributes : ℕ → Attributes → Tree → Tree
+with_attributes n a t = record t { attributes = λ k. if k == n then Some a else t.attributes k }
+
+-- the tree with the attributes of a number changed
+abbrev pub changing_attributes : ℕ → (Attributes → Attributes) → Tree → Tree
+changing_attributes n f t = with_attributes n (f (attributes_at t n)) t
+
+-- the tree with another mode at a number
 abbrev pub with_mode : ℕ → ℕ → Tree → Tree
-with_mode n mode t = record t { mode = λ k. if k == n then Some mode else t.mode k }
+with_mode n mode t = changing_attributes n (set_mode mode) t
 
 -- the tree with bytes at a file's number
 abbrev pub with_bytes : ℕ → List ℕ → Tree → Tree
@@ -45,11 +60,15 @@ with_descriptor d f t = record t { descriptors = λ k. if k == d then f else t.d
 
 -- the tree with a new directory at a path, of this number and mode
 abbrev pub with_directory : Path → ℕ → ℕ → Tree → Tree
-with_directory p n mode t = with_object p (directory n) (with_mode n mode t)
+with_directory p n mode t = with_object p (directory n) (with_attributes n (new_attributes mode) t)
 
 -- the tree with a new file of no bytes at a path, of this number and mode
 abbrev pub with_file : Path → ℕ → ℕ → Tree → Tree
-with_file p n mode t = with_object p (file n) (with_mode n mode (with_bytes n [] t))
+with_file p n mode t = with_object p (file n) (with_attributes n (new_attributes mode) (with_bytes n [] t))
+
+-- the tree with a new symbolic link at a path, of this number and text
+abbrev pub with_symlink : Path → ℕ → List ℕ → Tree → Tree
+with_symlink p n text t = with_object p (symlink n text) (with_attributes n (new_attributes LINK_MODE) t)
 
 -- what a move from p leaves at a path r: below the target what stood below p, below p nothing, and
 -- elsewhere what stood there
@@ -67,10 +86,10 @@ relocated p q f r = relocate (behind q r) (behind p r) p f r
 abbrev pub moved : Path → Path → Tree → Tree
 moved p q t = record t { objects = relocated p q t.objects }
 
--- the new tree is the old one without the bytes and modes of numbers that have neither path nor
+-- the new tree is the old one without the bytes and attributes of numbers that have neither path nor
 -- descriptor
 pub record IsSwept (old new : Tree) : Type 0 where
   pub objects : new.objects ≡ old.objects
   pub descriptors : new.descriptors ≡ old.descriptors
-  pub kept : (n : ℕ) → IsUsed old n → (new.bytes n ≡ old.bytes n) × (new.mode n ≡ old.mode n)
-  pub gone : (n : ℕ) → ¬ IsUsed old n → (new.bytes n ≡ None) × (new.mode n ≡ None)
+  pub kept : (n : ℕ) → IsUsed old n → (new.bytes n ≡ old.bytes n) × (new.attributes n ≡ old.attributes n)
+  pub gone : (n : ℕ) → ¬ IsUsed old n → (new.bytes n ≡ None) × (new.attributes n ≡ None)

@@ -39,11 +39,16 @@ abbrev pub with_file_bytes : (List ℕ → List ℕ) → Option Node → Option 
 with_file_bytes f (Some (file_node attributes links bytes)) = Some (file_node attributes links (f bytes))
 with_file_bytes f o = o
 
--- an object with this mode, where it is a directory or a file
+-- an object with its attributes changed
+abbrev pub with_node_attributes : (Attributes → Attributes) → Option Node → Option Node
+with_node_attributes f None = None
+with_node_attributes f (Some (directory_node attributes names)) = Some (directory_node (f attributes) names)
+with_node_attributes f (Some (file_node attributes links bytes)) = Some (file_node (f attributes) links bytes)
+with_node_attributes f (Some (link_node attributes text)) = Some (link_node (f attributes) text)
+
+-- an object with this mode
 abbrev pub with_node_mode : ℕ → Option Node → Option Node
-with_node_mode mode (Some (directory_node attributes names)) = Some (directory_node (set_mode mode attributes) names)
-with_node_mode mode (Some (file_node attributes links bytes)) = Some (file_node (set_mode mode attributes) links bytes)
-with_node_mode mode o = o
+with_node_mode mode o = with_node_attributes (set_mode mode) o
 
 -- the volume with a file that has another size
 abbrev pub with_size : ℕ → ℕ → Volume → Volume

@@ -56,8 +56,8 @@ as_failed s = record s { mark = failed }
 pub record ForgetsOpenFiles (old new : Tree) : Type 0 where
   pub objects : new.objects ≡ old.objects
   pub descriptors : new.descriptors ≡ (λ d. None)
-  pub kept : (n : ℕ) → HasPath old n → (new.bytes n ≡ old.bytes n) × (new.mode n ≡ old.mode n)
-  pub gone : (n : ℕ) → ¬ HasPath old n → (new.bytes n ≡ None) × (new.mode n ≡ None)
+  pub kept : (n : ℕ) → HasPath old n → (new.bytes n ≡ old.bytes n) × (new.attributes n ≡ old.attributes n)
+  pub gone : (n : ℕ) → ¬ HasPath old n → (new.bytes n ≡ None) × (new.attributes n ≡ None)
 
 -- what a mount finds of a state that a cut or an end left: no open files, and the mark is going
 pub record Forgets (old new : State) : Type 0 where

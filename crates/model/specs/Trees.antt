@@ -1,7 +1,9 @@
 -- The tree of a file system: what stands at each path, and what each file holds.
 use Rattle.std.specs.Prelude.{ℕ, ◌≡◌, ◌≢◌, ◌⊎◌, ◌↔◌, ◌≤◌, ◌<◌, ◌==◌, if◌then◌else◌, Bool, true, false, IsTrue, IsSome, List, [], ◌∷◌, ◌++◌, length, All, Option, Some, None, IfSome}
-use Rattle.model.specs.declared.limits.TheConstants.{ROOT_NUMBER, FIRST_NUMBER, MODE_BITS, GREATEST_OFFSET, OPEN_FILES}
+use Rattle.model.specs.declared.attributes.Attributes.{Attributes}
+use Rattle.model.specs.declared.limits.TheConstants.{ROOT_NUMBER, FIRST_NUMBER, GREATEST_OFFSET, OPEN_FILES}
 use Rattle.model.specs.declared.limits.Limits.{Limits}
+use Rattle.model.specs.Attributes.{FitAttributes, new_attributes}
 use Rattle.model.specs.Counting.{CountsUpTo}
 use Rattle.model.specs.Limits.{AreLimits}
 use Rattle.model.specs.Paths.{Path, IsName, IsLinkText, path_eq}
@@ -31,11 +33,11 @@ pub record Description : Type 0 where
   pub writes : Bool
   pub appends : Bool
 
--- four maps: what stands at each path, the bytes and the modes by number, and the descriptors
+-- four maps: what stands at each path, the bytes and the attributes by number, and the descriptors
 pub record Tree : Type 0 where
   pub objects : Path → Option Object
   pub bytes : ℕ → Option (List ℕ)  -- of the files, by their numbers
-  pub mode : ℕ → Option ℕ  -- of the files and the directories
+  pub attributes : ℕ → Option Attributes  -- of each object, by its number
   pub descriptors : ℕ → Option Description
 
 -- an object of this number and kind stands at a path
@@ -77,7 +79,7 @@ pub record IsTree (limits : Limits) (t : Tree) : Type 0 where
   -- only a file may stand at several paths
   pub single : (p q : Path) (o r : Object) → t.objects p ≡ Some o → t.objects q ≡ Some r → number_of_object o ≡ number_of_object r → (p ≡ q) ⊎ ((o ≡ file (number_of_object o)) × (r ≡ o))
   pub bytes : (n : ℕ) → IsSome (t.bytes n) ↔ (StandsAtPath t file n ⊎ IsOpen t n)
-  pub mode : (n : ℕ) → IsSome (t.mode n) ↔ (StandsAtPath t directory n ⊎ StandsAtPath t file n ⊎ IsOpen t n)
+  pub attributes : (n : ℕ) → IsSome (t.attributes n) ↔ IsUsed t n
   pub opened : (n : ℕ) (p : Path) (o : Object) → IsOpen t n → t.objects p ≡ Some o → number_of_object o ≡ n → o ≡ file n
   -- and the limits
   pub numbers : (n : ℕ) → IsUsed t n → (n ≡ ROOT_NUMBER) ⊎ ((FIRST_NUMBER ≤ n) × (n < limits.inodes))
@@ -85,7 +87,7 @@ pub record IsTree (limits : Limits) (t : Tree) : Type 0 where
   pub children : (p : Path) → IsTrue (is_directory (t.objects p)) → CountsUpTo limits.directory_names (λ name. IsSome (t.objects (p ++ name ∷ [])))
   pub links : (n : ℕ) → CountsUpTo limits.file_names (λ p. t.objects p ≡ Some (file n))
   pub sizes : (n : ℕ) → IfSome (t.bytes n) (λ bytes. length bytes ≤ limits.file_bytes)
-  pub bits : (n : ℕ) → IfSome (t.mode n) (λ mode. mode ≤ MODE_BITS)
+  pub fit : (n : ℕ) → IfSome (t.attributes n) (FitAttributes limits.has_attributes)
   pub table : (d : ℕ) → OPEN_FILES ≤ d → t.descriptors d ≡ None
   pub offsets : (d : ℕ) (f : Description) → t.descriptors d ≡ Some f → f.offset ≤ GREATEST_OFFSET
 
@@ -94,6 +96,6 @@ abbrev pub root_alone : ℕ → Tree
 root_alone mode = record {
   objects = λ p. if path_eq p [] then Some (directory ROOT_NUMBER) else None;
   bytes = λ n. None;
-  mode = λ n. if n == ROOT_NUMBER then Some mode else None;
+  attributes = λ n. if n == ROOT_NUMBER then Some (new_attributes mode) else None;
   descriptors = λ d. None;
 }

@@ -3,7 +3,7 @@ use Rattle.std.specs.Prelude.{ℕ, zero, suc, ◌||◌, ◌≡◌, ◌≢◌, �
 use Rattle.model.specs.declared.limits.TheConstants.{ROOT_NUMBER, FIRST_NUMBER, GREATEST_OFFSET, OPEN_FILES}
 use Rattle.model.specs.declared.attributes.Attributes.{Attributes}
 use Rattle.model.specs.declared.limits.Limits.{Limits}
-use Rattle.model.specs.Attributes.{AreAttributes}
+use Rattle.model.specs.Attributes.{FitAttributes}
 use Rattle.model.specs.Counting.{Counts, CountsUpTo}
 use Rattle.model.specs.Limits.{AreLimits}
 use Rattle.model.specs.Paths.{Name, Path, IsName, IsLinkText}
@@ -60,18 +60,19 @@ abbrev pub bytes_of_node : Option Node → Option (List ℕ)
 bytes_of_node (Some (file_node attributes links bytes)) = Some bytes
 bytes_of_node _ = None
 
--- the mode of a directory or a file; that of a link isn't told
-abbrev pub mode_of : Option Node → Option ℕ
-mode_of (Some (directory_node attributes names)) = Some attributes.mode
-mode_of (Some (file_node attributes links bytes)) = Some attributes.mode
-mode_of _ = None
+-- an object's attributes
+abbrev pub attributes_of : Option Node → Option Attributes
+attributes_of None = None
+attributes_of (Some (directory_node attributes names)) = Some attributes
+attributes_of (Some (file_node attributes links bytes)) = Some attributes
+attributes_of (Some (link_node attributes text)) = Some attributes
 
 -- the tree that a volume stands for, with these descriptors
 abbrev pub tree_of : Volume → (ℕ → Option Description) → Tree
 tree_of v table = record {
   objects = λ p. object_at v (number_at (entries v) p);
   bytes = λ n. bytes_of_node (v n);
-  mode = λ n. mode_of (v n);
+  attributes = λ n. attributes_of (v n);
   descriptors = table;
 }
 
@@ -129,9 +130,10 @@ pub record IsGraph (v : Volume) : Type 0 where
 
 -- the limits that one object keeps
 abbrev pub IsNode : Limits → Node → Type 0
-IsNode limits (directory_node attributes names) = AreAttributes attributes
-IsNode limits (file_node attributes links bytes) = AreAttributes attributes × (links ≤ limits.file_names) × (length bytes ≤ limits.file_bytes)
-IsNode limits (link_node attributes text) = IsLinkText limits.path_bytes text
+IsNode limits (directory_node attributes names) = FitAttributes limits.has_attributes attributes
+IsNode limits (file_node attributes links bytes) =
+    FitAttributes limits.has_attributes attributes × (links ≤ limits.file_names) × (length bytes ≤ limits.file_bytes)
+IsNode limits (link_node attributes text) = FitAttributes limits.has_attributes attributes × IsLinkText limits.path_bytes text
 
 -- the limits that all objects keep
 pub record KeepsNodeLimits (limits : Limits) (v : Volume) : Type 0 where

@@ -13,6 +13,7 @@ mod limits;
 mod mode;
 mod reply;
 mod text;
+mod time;
 
 pub use attributes::Attributes;
 pub use command::{Access, Command, Flags, PathCall, Settings, Whence};
@@ -31,10 +32,11 @@ pub use laws::{
     volumes_tell_used_numbers,
 };
 pub use limits::{
-    ENTRIES_TOLD, FIRST_NUMBER, GREATEST_GENERATION, GREATEST_OFFSET, LINK_MODE, LINKS_FOLLOWED,
-    Limits, MODE_BITS, NAME_BYTES, OPEN_FILES, ROOT_NUMBER, SESSION_FILES, SNAPSHOT_NAME_BYTES,
-    TRANSFER_BYTES,
+    ENTRIES_TOLD, FIRST_NUMBER, GREATEST_GENERATION, GREATEST_OFFSET, GREATEST_OWNER, LINK_MODE,
+    LINKS_FOLLOWED, Limits, MODE_BITS, MOST_CREATIONS, MOST_NANOSECONDS, NAME_BYTES, OPEN_FILES,
+    ROOT_NUMBER, SESSION_FILES, SNAPSHOT_NAME_BYTES, TRANSFER_BYTES,
 };
 pub use mode::Mode;
 pub use reply::{Extent, FileType, Reply, Stat, Usage};
 pub use text::{Bytes, Names, Text};
+pub use time::{Nanoseconds, Time};

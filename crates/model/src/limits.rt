@@ -65,3 +65,12 @@ pub const MODE_BITS: u16 = 0o7777;
 
 /// The mode of each symbolic link.
 pub const LINK_MODE: u16 = 0o777;
+
+/// Greatest number of an owner, and of a group.
+pub const GREATEST_OWNER: u32 = 4_294_967_295;
+
+/// Greatest count of objects that were ever made.
+pub const MOST_CREATIONS: u64 = 18_446_744_073_709_551_615;
+
+/// Greatest number of nanoseconds behind a time's seconds.
+pub const MOST_NANOSECONDS: u32 = 999_999_999;

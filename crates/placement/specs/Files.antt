@@ -1,12 +1,12 @@
 -- What a changed file is that a consistency point places, and what its new inode comes to.
 use Rattle.std.specs.Prelude.{ℕ, suc, ◌≡◌, ◌⊎◌, ◌<◌, ◌≤◌, ◌==◌, Bool, true, List, nat_lt, if◌then◌else◌}
 use Rattle.std.specs.List.{list_any}
-use Rattle.model.specs.Attributes.{AreAttributes}
+use Rattle.model.specs.Attributes.{FitAttributes}
 use Rattle.layout.specs.Bytes.{zeros}
 use Rattle.layout.specs.Inode.{FitsKind}
 use Rattle.layout.specs.Limits.{Sizes}
 use Rattle.layout.specs.Places.{Blocks}
-use Rattle.layout.specs.Trees.{level_of}
+use Rattle.layout.specs.Trees.{has_attributes, level_of}
 use Rattle.layout.specs.declared.TheConstants.{BLOCK_BYTES}
 use Rattle.layout.specs.declared.inode.Body.TheVariants.{Pointers}
 use Rattle.layout.specs.declared.inode.Inode.{Inode}
@@ -71,7 +71,7 @@ pub record IsChangeOf (s : Sizes) (d : Draft) (disk : Blocks) (base : Inode) (o 
   pub once : IsOnce (held disk base)
   pub used : (b : ℕ) → Names (held disk base) b → IsFree d.map.parts.items b → ⊥
   pub ends : IsFile disk o.file
-  pub attributes : AreAttributes o.status.attributes
+  pub attributes : FitAttributes (has_attributes s.layout) o.status.attributes
   pub kind : FitsKind o.status.kind s o.status.attributes o.status.links o.file.size
 
 -- An object over its settled inode of which each block is stored, as large as that one and with no

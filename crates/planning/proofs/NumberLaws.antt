@@ -7,7 +7,7 @@ use Rattle.layout.specs.Bytes.{zeros}
 use Rattle.layout.specs.Inode.{FitsBody, FitsKind, IsInode}
 use Rattle.layout.specs.Limits.{Sizes}
 use Rattle.layout.specs.Places.{Blocks}
-use Rattle.layout.specs.Trees.{level_of}
+use Rattle.layout.specs.Trees.{has_attributes, level_of}
 use Rattle.layout.specs.declared.inode.Body.{Body}
 use Rattle.layout.specs.declared.inode.Body.TheVariants.{Inline, Pointers}
 use Rattle.layout.specs.declared.inode.Inode.{Inode}
@@ -33,7 +33,7 @@ use Rattle.inofile.specs.Inodes.{files_of, content_at, or_free_content}
 use Rattle.inofile.specs.Objects.{IsObject, IsObjectKind}
 use Rattle.inofile.specs.Settled.{content_of_object as memory_content}
 use Rattle.inofile.specs.declared.inode_file.InodeFile.{InodeFile}
-use Rattle.model.specs.Attributes.{no_attributes, AreAttributes}
+use Rattle.model.specs.Attributes.{FitAttributes, no_attributes}
 use Rattle.model.specs.Volumes.{Node}
 use Rattle.model.proofs.AttributeLaws.{new_fit}
 use Rattle.placement.specs.Files.{IsBasedOn, IsPlaced, IsChangeOf, object_content}
@@ -123,7 +123,7 @@ module _ (s : Sizes) (draft : Draft) (d : Blocks) (f : Inode) (o : Object) (file
       once = file.once;
       used = file.used;
       ends = λ p le. ap (λ (b : List ℕ). slice_index b (p % 4096)) (none (p / 4096)) ∙ zero_byte (p % 4096) 4096;
-      attributes = subst AreAttributes (sym attributes) (new_fit 0 (omega arith));
+      attributes = subst (FitAttributes (has_attributes s.layout)) (sym attributes) (new_fit (has_attributes s.layout) 0 (omega arith));
       kind = subst (λ k. FitsKind k s o.status.attributes o.status.links o.file.size) (sym kind) (attributes, links, size);
     }
 

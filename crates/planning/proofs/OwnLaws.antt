@@ -6,13 +6,13 @@ use Rattle.std.proofs.lemmas.List.{get_or_past, get_or-take, get_or-drop}
 use Rattle.std.proofs.lemmas.List.FromFn.{fill_by_all}
 use Rattle.std.specs.Int.{div_ceil}
 use Rattle.std.specs.Prelude.{slice_index}
-use Rattle.model.specs.Attributes.{AreAttributes}
+use Rattle.model.specs.Attributes.{FitAttributes}
 use Rattle.layout.specs.Bytes.{zeros}
 use Rattle.layout.specs.FileBytes.{byte_in}
 use Rattle.layout.specs.Inode.{FitsBody, FitsKind, IsInode}
 use Rattle.layout.specs.Limits.{Sizes}
 use Rattle.layout.specs.Places.{Blocks}
-use Rattle.layout.specs.Trees.{level_of}
+use Rattle.layout.specs.Trees.{has_attributes, level_of}
 use Rattle.layout.specs.declared.inode.Body.{Body}
 use Rattle.layout.specs.declared.inode.Body.TheVariants.{Inline, Pointers}
 use Rattle.layout.specs.declared.inode.Inode.{Inode}
@@ -67,7 +67,7 @@ own_change count draft disk s top settled_of before n f from o are once exact sa
       once = once.each n;
       used = λ b names free. used_block draft disk settled_of before exact same n b names free;
       ends = ends;
-      attributes = subst (λ (a : Status). AreAttributes a.attributes) (sym status) inode.attributes;
+      attributes = subst (λ (a : Status). FitAttributes (has_attributes s.layout) a.attributes) (sym status) (subst (λ l. FitAttributes (has_attributes l) f.attributes) inode.layout inode.attributes);
       kind = subst (λ (z : ℕ). FitsKind o.status.kind s o.status.attributes o.status.links z) (sym size)
           (subst (λ (a : Status). FitsKind a.kind s a.attributes a.links f.size) (sym status) inode.kind);
     }

@@ -1,5 +1,6 @@
 -- What a consistency point makes of one number.
 use Rattle.std.specs.Prelude.{ℕ, ◌≡◌, Bool, nat_lt, if◌then◌else◌}
+use Rattle.layout.specs.Trees.{has_attributes}
 use Rattle.layout.specs.Bytes.{zeros}
 use Rattle.layout.specs.Inode.{FitsKind}
 use Rattle.layout.specs.Limits.{Sizes}
@@ -7,7 +8,7 @@ use Rattle.layout.specs.Places.{Blocks}
 use Rattle.layout.specs.declared.TheConstants.{BLOCK_BYTES}
 use Rattle.layout.specs.declared.inode.Inode.{Inode}
 use Rattle.layout.specs.declared.kind.Kind.TheVariants as kinds
-use Rattle.model.specs.Attributes.{AreAttributes}
+use Rattle.model.specs.Attributes.{FitAttributes}
 use Rattle.blocktree.specs.Places.{block_count}
 use Rattle.images.specs.Contents.{Content, content_of}
 use Rattle.images.specs.Nodes.{Held, held, Names, IsOnce}
@@ -49,5 +50,5 @@ pub record IsCleared (s : Sizes) (e : Blocks) (old : Held) (f : Inode) (taken fr
 pub record IsObjectOver (s : Sizes) (disk : Blocks) (settled : Inode) (o : Object) : Type 0 where
   pub based : IsBased settled o.file.tree
   pub ends : IsFile disk o.file
-  pub attributes : AreAttributes o.status.attributes
+  pub attributes : FitAttributes (has_attributes s.layout) o.status.attributes
   pub kind : FitsKind o.status.kind s o.status.attributes o.status.links o.file.size

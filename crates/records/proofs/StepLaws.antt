@@ -3,6 +3,7 @@ use Rattle.std.proofs.Common.{◌≡◌, ◌≢◌, ◌+◌, ◌≤◌, ℕ, Lis
 use Rattle.std.proofs.lemmas.Bool.{both_ways}
 use Rattle.layout.specs.Inode.{FitsKind}
 use Rattle.layout.specs.Limits.{Sizes}
+use Rattle.layout.specs.Trees.{has_attributes}
 use Rattle.layout.specs.declared.inode.Inode.{Inode}
 use Rattle.layout.specs.declared.kind.Kind.{Kind}
 use Rattle.layout.specs.declared.kind.Kind.TheVariants as kinds
@@ -84,7 +85,7 @@ pub mode_set : (detail : Detail) (disk : ℕ → List ℕ) (inodes : ℕ) (settl
     → IsObjectIn detail disk inodes settled (with_attributes o (set_mode mode o.status.attributes)) (with_node_mode mode found)
 mode_set detail disk inodes settled o found mode good was is = record {
   kind = was.kind;
-  attributes = set_fit mode o.status.attributes good was.attributes;
+  attributes = set_fit (has_attributes settled.layout) mode o.status.attributes good was.attributes;
   fits = λ s. fits_after inodes mode (content_of_object disk o) found is o.status.kind s (by_size detail o.status.kind inodes (content_of_object disk o) found was.stands) (was.fits s);
   stands = in_detail_after inodes mode (content_of_object disk o) found is detail o.status.kind was.stands;
   ends = was.ends;

@@ -1,12 +1,13 @@
 -- What names and numbers keep, where the limits of objects aren't known.
 use Rattle.std.proofs.Common.{◌∙◌, ◌≡◌, inr, ℕ, List, Option, Some, None, IsSome, false, is_some, ap, sym, refl, [], ◌∷◌}
 use Rattle.model.specs.declared.limits.Limits.{Limits}
-use Rattle.model.specs.Records.{Applies, Change, applied, change_mode, create, set_file, truncate, link, node_of, rename, remove_name, with_bits, with_file_bytes, with_node_mode, with_size, without_orphans, write}
+use Rattle.model.specs.Records.{Applies, Change, applied, change_mode, create, set_file, truncate, link, node_of, rename, remove_name, with_bits, with_file_bytes, with_node_attributes, with_size, without_orphans, write}
+use Rattle.model.specs.Attributes.{set_mode}
 use Rattle.model.specs.Edits.{resized, written}
 use Rattle.model.specs.Volumes.{IsGraph, IsVolume, Node, Volume, entries, is_directory_node, is_file_node, released, swept_node, with_entry, with_name_more, with_node}
 use Rattle.model.proofs.AddLemmas.{graph-altered, graph-created, graph-linked, graph-swept}
 use Rattle.model.proofs.LimitLemmas.{numbers_entry, numbers_node, numbers_released}
-use Rattle.model.proofs.MoveLemmas.{bytes_by, bytes_links, bytes_names, graph-moved, made_bare, made_links, mode_directory, mode_file, mode_links, mode_names, mode_some, path_to}
+use Rattle.model.proofs.MoveLemmas.{bytes_by, bytes_links, bytes_names, graph-moved, made_bare, made_links, attributes_directory, attributes_file, attributes_is_some, attributes_links, attributes_names, path_to}
 use Rattle.model.proofs.RemoveNameLemmas.{volume-unnamed}
 use Rattle.model.proofs.VolumeLemmas.{enters_directory}
 use Rattle.images.specs.Soundness.{Detail, by_bytes, by_sizes}
@@ -28,9 +29,10 @@ module _ (limits : Limits) (v : Volume) (has : HasGraph limits.inodes v) where
 
   mode_changed : (n mode : ℕ) → HasGraph limits.inodes (with_bits n mode v)
   mode_changed n mode =
-      altered n (with_node_mode mode (v n))
-      (graph-altered v has.graph n (with_node_mode mode (v n)) (mode_names mode (v n)) (mode_file mode (v n)) (mode_directory mode (v n)) (mode_some mode (v n)) (mode_links mode (v n)))
-      (mode_some mode (v n))
+      let f = set_mode mode in
+      altered n (with_node_attributes f (v n))
+      (graph-altered v has.graph n (with_node_attributes f (v n)) (attributes_names f (v n)) (attributes_file f (v n)) (attributes_directory f (v n)) (attributes_is_some f (v n)) (attributes_links f (v n)))
+      (attributes_is_some f (v n))
 
 module _ (limits : Limits) (v : Volume) (has : HasGraph limits.inodes v) where
   -- a record that applies keeps it

@@ -6,6 +6,7 @@ use Rattle.inode.specs.Files.{file_block}
 use Rattle.model.specs.Attributes.{new_attributes}
 use Rattle.layout.specs.declared.kind.Kind.TheVariants as kinds
 use Rattle.model.specs.Volumes.{directory_node}
+use Rattle.layout.specs.Trees.{has_attributes}
 use Rattle.model.proofs.AttributeLaws.{new_fit}
 use Rattle.records.proofs.NewLaws.{new_object}
 use Rattle.records.proofs.DetailLaws.{can_read, directory_in, ends_of}
@@ -21,7 +22,7 @@ returns-clause-object c =
     let none : c.empty.result.size / 4096 ≡ 0 = ap (λ s. s / 4096) c.empty.ensures.size in
     λ detail disk inodes settled same. made detail disk inodes settled (record {
       kind = tt;
-      attributes = new_fit c.args.mode (subst (λ (m : ℕ). m ≤ 4095) c.bits.ensures.same c.bits.ensures.fits);
+      attributes = new_fit (has_attributes settled.layout) c.args.mode (subst (λ (m : ℕ). m ≤ 4095) c.bits.ensures.same c.bits.ensures.fits);
       fits = λ s. (refl, ap (λ (n : ℕ). n % 4096) c.empty.ensures.size);
       stands = directory_in detail inodes (record { kind = kinds.Directory; attributes = new_attributes c.args.mode; links = 1; size = c.empty.result.size; block = file_block disk c.empty.result }) found (can_read detail (file_block disk c.empty.result) (λ i. ap length (c.empty.ensures.blocks disk i) ∙ length-zeros 4096)) (
         λ name. None,

@@ -2,6 +2,7 @@ use Rattle.std.proofs.Common.{ℕ, ◌/◌, ◌%◌, Some, List, [], ◌≤◌, 
 use Rattle.layout.proofs.ZeroLaws.{length-zeros}
 use Rattle.model.specs.Attributes.{new_attributes}
 use Rattle.model.specs.Volumes.{file_node}
+use Rattle.layout.specs.Trees.{has_attributes}
 use Rattle.model.proofs.AttributeLaws.{new_fit}
 use Rattle.layout.specs.declared.kind.Kind.TheVariants as kinds
 use Rattle.inode.specs.Files.{file_block}
@@ -16,7 +17,7 @@ returns-clause-object c =
     let made = new_object kinds.File c.args.mode c.new-attributes.result c.new-status.result c.empty.result c.new.result (Some (file_node (new_attributes c.args.mode) 1 [])) c.new-attributes.ensures c.new-status.ensures in
     λ detail disk inodes settled same. made detail disk inodes settled (record {
       kind = tt;
-      attributes = new_fit c.args.mode (subst (λ (m : ℕ). m ≤ 4095) c.bits.ensures.same c.bits.ensures.fits);
+      attributes = new_fit (has_attributes settled.layout) c.args.mode (subst (λ (m : ℕ). m ≤ 4095) c.bits.ensures.same c.bits.ensures.fits);
       fits = λ s. omega arith;
       stands = file_in detail inodes (record { kind = kinds.File; attributes = new_attributes c.args.mode; links = 1; size = c.empty.result.size; block = file_block disk c.empty.result }) c.empty.ensures.size (λ i. ap length (c.empty.ensures.blocks disk i) ∙ length-zeros 4096);
       ends = ends_of detail disk c.empty.result (λ p beyond. ap (λ (b : List ℕ). slice_index b (p % 4096)) (c.empty.ensures.blocks disk (p / 4096)) ∙ slice_index-zeros 4096 (p % 4096));

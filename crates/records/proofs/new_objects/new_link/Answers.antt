@@ -8,6 +8,7 @@ use Rattle.model.specs.Attributes.{new_attributes}
 use Rattle.model.specs.Volumes.{link_node}
 use Rattle.model.specs.Room.{touched}
 use Rattle.model.specs.declared.limits.TheConstants.{LINK_MODE}
+use Rattle.layout.specs.Trees.{has_attributes}
 use Rattle.model.proofs.AttributeLaws.{new_fit}
 use Rattle.buffers.specs.Positions.{with_bytes_at}
 use Rattle.inode.specs.Edges.{written_list}
@@ -49,7 +50,7 @@ returns-clause-object g c = λ detail disk shows inodes settled same.
     let short = is.short in
     new_object kinds.Link LINK_MODE c.of_link-attributes.result c.new-status.result new c.new.result (Some (link_node (new_attributes LINK_MODE) text)) c.of_link-attributes.ensures c.new-status.ensures detail disk inodes settled (record {
       kind = tt;
-      attributes = new_fit LINK_MODE (omega arith);
+      attributes = new_fit (has_attributes settled.layout) LINK_MODE (omega arith);
       fits = λ s. (refl, refl, omega (arith, many, some), omega (arith, many, short));
       stands = link_in detail inodes (record { kind = kinds.Link; attributes = new_attributes LINK_MODE; links = 1; size = new.size; block = file_block disk new }) text bytes;
       ends = ends_of detail disk new (written_ends (byte_at disk old) (byte_at disk new) old.size new.size 0 text size ends byte);

@@ -11,4 +11,4 @@ returns c =
     (writes_both (written_to {end = at + 8} (omega arith) c.put_u32.ensures)
     (writes_both (written_to {end = at + 16} (omega arith) c.put_u64.ensures)
     (written_to {end = at + 17} (omega arith) c.put_u8.ensures)))))
-    (writes_both (written_to {end = at + 64} (omega arith) c.put_zeros.ensures) (written_to {end = at + 192} (omega arith) c.put_body.ensures)))
+    (writes_both (written_to {end = at + 64} (omega arith) c.put_attributes.ensures) (written_to {end = at + 192} (omega arith) c.put_body.ensures)))
