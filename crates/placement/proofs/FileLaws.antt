@@ -10,11 +10,13 @@ use Rattle.layout.specs.Inode.{FitsBody}
 use Rattle.layout.specs.FileBytes.{byte_in, EndsAt}
 use Rattle.layout.specs.Limits.{Sizes}
 use Rattle.layout.specs.Places.{Blocks, place, pointed}
+use Rattle.layout.specs.Trees.{has_attributes}
 use Rattle.layout.specs.declared.inode.Body.{Body}
 use Rattle.layout.specs.declared.inode.Body.TheVariants.{Inline, Pointers}
 use Rattle.layout.specs.declared.inode.Inode.{Inode}
 use Rattle.layout.proofs.SizeLaws.{level_none}
 use Rattle.layout.proofs.ZeroLaws.{length-zeros}
+use Rattle.model.specs.Attributes.{FitAttributes}
 use Rattle.images.specs.Contents.{content_of}
 use Rattle.images.specs.Nodes.{held, body_block}
 use Rattle.images.specs.Soundness.{IsReadable, IsSoundFile}
@@ -107,7 +109,13 @@ module _ (s : Sizes) (old new : Draft) (d e : Blocks) (base : Inode) (o : Object
   sound_is : (1 ≤ file_level o.file → (i : ℕ) → IsWhole (block i)) → IsSoundFile s (held e (inode_with o body))
   unfolding held
   sound_is whole = record {
-    inode = record { layout = known.tree ∙ base_layout; attributes = change.attributes; size = o.file.within; kind = change.kind; body = laid.body };
+    inode = record {
+      layout = known.tree ∙ base_layout;
+      attributes = subst (λ l. FitAttributes (has_attributes l) o.status.attributes) (sym (known.tree ∙ base_layout)) change.attributes;
+      size = o.file.within;
+      kind = change.kind;
+      body = laid.body;
+    };
     indirect = laid.indirect;
     bytes = record {
       readable = readable whole body refl laid.body;

@@ -149,7 +149,7 @@ module _ (s : Sizes) (draft : Draft) (d : Blocks) (f : Inode) (o : Object) (file
     once = file.once;
     used = file.used;
     ends = object.ends;
-    attributes = object.attributes;
+    attributes = subst (λ l. FitAttributes (has_attributes l) o.status.attributes) (subst (IsInode s) (held_inode d f) file.sound.inode).layout object.attributes;
     kind = object.kind;
   }
 
@@ -162,7 +162,7 @@ module _ (s : Sizes) (draft : Draft) (d : Blocks) (f : Inode) (o : Object) (file
     once = λ m i k j b here there. absurd (none_named d (free_inode s.layout) refl b (record { height = m; index = i; is = here }));
     used = λ b names free. none_named d (free_inode s.layout) refl b names;
     ends = object.ends;
-    attributes = object.attributes;
+    attributes = subst (λ l. FitAttributes (has_attributes l) o.status.attributes) (subst (IsInode s) (held_inode d f) file.sound.inode).layout object.attributes;
     kind = object.kind;
   }
 
@@ -187,7 +187,12 @@ ordinary_kind kinds.BlockMap is = absurd is
 -- what an object of memory is, over its settled inode
 pub object_over : (s : Sizes) (inodes : ℕ) (d : Blocks) (f g : Inode) (o : Object) (found : Option Node) → f ≡ g → IsObject d inodes g o found → IsObjectOver s d f o
 object_over s inodes d f g o found now object =
-    record { based = subst (λ (x : Inode). IsBased x o.file.tree) (sym now) object.base; ends = object.ends; attributes = object.attributes; kind = object.fits s }
+    record {
+      based = subst (λ (x : Inode). IsBased x o.file.tree) (sym now) object.base;
+      ends = object.ends;
+      attributes = subst (λ (x : Inode). FitAttributes (has_attributes x.layout) o.status.attributes) (sym now) object.attributes;
+      kind = object.fits s;
+    }
 
 -- an object that was placed is the number's file
 pub object_placed : (s : Sizes) (d e : Blocks) (settled_of : ℕ → Inode) (inodes : InodeFile) (n : ℕ) (f new : Inode) (o : Object) (taken freed : ℕ → Bool) → f ≡ settled_of n

@@ -50,5 +50,5 @@ pub record IsCleared (s : Sizes) (e : Blocks) (old : Held) (f : Inode) (taken fr
 pub record IsObjectOver (s : Sizes) (disk : Blocks) (settled : Inode) (o : Object) : Type 0 where
   pub based : IsBased settled o.file.tree
   pub ends : IsFile disk o.file
-  pub attributes : FitAttributes (has_attributes s.layout) o.status.attributes
+  pub attributes : FitAttributes (has_attributes settled.layout) o.status.attributes
   pub kind : FitsKind o.status.kind s o.status.attributes o.status.links o.file.size
