@@ -6,7 +6,7 @@ use Rattle.model.specs.Room.{Need, nothing}
 use Rattle.model.specs.States.{State}
 use Rattle.model.specs.Steps.{Step, frozen, has_open_below, passing, says}
 use Rattle.model.specs.Trees.{Tree}
-use Rattle.model.specs.declared.command.Command.TheVariants.{SnapRestore}
+use Rattle.model.specs.declared.command.Command.TheVariants.{SnapDelete, SnapRestore}
 use Rattle.model.specs.declared.errno.Errno.{Errno}
 use Rattle.model.specs.declared.errno.Errno.TheVariants.{EBUSY, NOSNAP}
 use Rattle.model.specs.declared.limits.TheConstants.{OPEN_FILES}
@@ -29,6 +29,11 @@ pub busy : (s : State) (name : Name) (pair : Name × Tree) → frozen s name ≡
 busy s name pair is is_open room =
     let first = λ (o : Option (Name × Tree)) (b : Bool). first_refusal ((is_none o, NOSNAP) ∷ (b, EBUSY) ∷ []) in
     refused s ((is_none (frozen s name), NOSNAP) ∷ (has_open_below s.tree OPEN_FILES, EBUSY) ∷ []) _ EBUSY (ap (λ (o : Option (Name × Tree)). first o (has_open_below s.tree OPEN_FILES)) is ∙ ap (first (Some pair)) is_open)
+
+-- no snapshot has the name of the one that is to go
+pub none_to_delete : (s : State) (name : Name) → frozen s name ≡ None → Refuses s (SnapDelete name) NOSNAP
+none_to_delete s name is room =
+    refused s ((is_none (frozen s name), NOSNAP) ∷ []) _ NOSNAP (ap (λ (o : Option (Name × Tree)). first_refusal ((is_none o, NOSNAP) ∷ [])) is)
 
 -- no snapshot has the name
 pub missing : (s : State) (name : Name) → frozen s name ≡ None → Refuses s (SnapRestore name) NOSNAP

@@ -14,6 +14,11 @@ returns-in_err-placed-clause-damaged g c = λ s disk shows file object bad. elim
   | inr none ↦ c.in_err-placed.ensures.damaged s disk (free_inode s.layout) shows (change_anew s c.args.draft.now disk c.args.settled c.args.object.now file object (omega arith)) (search rules)
 ]
 
+pub returns-in_err-cleared-clause-damaged : goal.returns-in_err-cleared-clause-damaged
+returns-in_err-cleared-clause-damaged g c = λ s disk shows file object bad.
+    let later = settled_later s c.args.draft.now c.place_file.new.draft disk c.args.settled file c.place_file.ensures.step.parts c.place_file.ensures.step.grows.count in
+    c.in_err-cleared.ensures.damaged s disk (c.place_file.ensures.step.reads.same disk shows) later (search rules)
+
 pub returns-then-lies_over-clause-placed : goal.returns-then-lies_over-clause-placed
 returns-then-lies_over-clause-placed g c = λ s disk shows file object.
     (c.in_ok-placed.ensures.placed s disk c.args.settled shows (change_over s c.args.draft.now disk c.args.settled c.args.object.now file object (c.lies_over.ensures.0 c.if-lies_over.true))).placed
