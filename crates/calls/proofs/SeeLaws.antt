@@ -28,7 +28,7 @@ use Rattle.calls.specs.Seeing.{ReadingForgets}
 -- ---- where a path leads is told by what stands at paths
 
 abbrev bare : (Path → Option Object) → Tree
-bare objects = record { objects = objects; bytes = λ n. None; mode = λ n. None; descriptors = λ d. None }
+bare objects = record { objects = objects; bytes = λ n. None; attributes = λ n. None; descriptors = λ d. None }
 
 abbrev after : Tree → Bool → Path → Name → List Name → Next → Stop
 after t follow p part rest (into q) = walk t follow q rest
