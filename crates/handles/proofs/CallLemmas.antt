@@ -10,7 +10,7 @@ use Rattle.model.specs.declared.command.Whence.{Whence}
 use Rattle.model.specs.declared.limits.Limits.{Limits}
 use Rattle.model.specs.Paths.{Name, Path, text_tests, text_tests_then, new_text_tests, is_empty, is_root_text, path_eq}
 use Rattle.model.specs.Trees.{Tree, Object, directory, symlink, file, is_directory, Description, number_of_object}
-use Rattle.model.specs.Edits.{contents, resized, written, read_at, with_object, without_object, with_mode, with_bytes, with_descriptor, with_directory, with_file, moved}
+use Rattle.model.specs.Edits.{contents, resized, written, read_at, with_object, without_object, with_mode, with_bytes, with_descriptor, with_directory, with_symlink, with_file, moved}
 use Rattle.model.specs.Resolution.{parent}
 use Rattle.model.specs.Room.{Need, nothing, logs, adds_name, puts_bytes, removes_name}
 use Rattle.model.specs.Outcomes.{Outcome, refuses, goes_along, IsFresh, lowest_free}
@@ -200,8 +200,8 @@ module _ (limits : Limits) (t : Tree) (Given : ℕ → Type 0) where
 
   pub gives_symlink : (text path : List ℕ) → ((n : ℕ) → IsFresh limits t n → Given n) → GivesOnly t Given (changing.makes_symlink limits t text path)
   gives_symlink text path given =
-      gives_tested t Given (changing.link_text_tests limits text) (changing.creates limits t path (λ p n. with_object p (symlink n text))) (λ e.
-      gives_creates path (λ p n. with_object p (symlink n text)) (λ p n fresh. come_placed t Given p (symlink n text) (inr (given n fresh))))
+      gives_tested t Given (changing.link_text_tests limits text) (changing.creates limits t path (λ p n. with_symlink p n text)) (λ e.
+      gives_creates path (λ p n. with_symlink p n text) (λ p n fresh. come_placed t Given p (symlink n text) (inr (given n fresh))))
 
   gives_opened : (tells : Bool) (n : ℕ) (flags : Flags) (fd : ℕ) (u : Tree) (need : Need) → AllCome t Given u → Comes t Given n → GivesOnly t Given (descriptors.opens_file tells n flags fd u need)
   gives_opened tells n flags fd u need comes named =
