@@ -1,4 +1,4 @@
-use Rattle.std.proofs.Common.{Ok, Err, Option, ◌≡◌, ℕ, ◌+◌, length, ap, arith, sym, subst, ◌⊎◌, ◌≢◌, inl, inr, refl}
+use Rattle.std.proofs.Common.{Ok, Err, Option, ◌≡◌, ◌∙◌, ◌≤◌, ℕ, ◌+◌, ◌*◌, ◌^◌, true, length, ap, arith, sym, subst, ◌⊎◌, ◌≢◌, inl, inr, refl}
 use Rattle.std.specs.Prelude.{IsFalse, IsErrOf}
 use Rattle.layout.specs.StateLimits.{limits_of}
 use Rattle.station.specs.Moments.{LeavesOnly}
@@ -8,10 +8,11 @@ use Rattle.model.specs.States.{State}
 use Rattle.model.specs.Trees.{Description}
 use Rattle.model.specs.Volumes.{swept}
 use Rattle.replay.specs.Costs.{IsSizeBefore}
+use Rattle.replay.specs.declared.costs.TheConstants.{MOST_COST}
 use Rattle.system.specs.Images.{OpensTo}
 use Rattle.system.specs.Logging.{Advances}
 use Rattle.system.specs.Systems.{HasState, state_with}
-use Rattle.oplog.specs.LogEnd.{HasRoomInHalf, LogEnd, logged_body}
+use Rattle.oplog.specs.LogEnd.{HasRoomInHalf, LogEnd, logged_body, next_of}
 use Rattle.oplog.specs.declared.log.AppendError.{AppendError}
 use Rattle.oplog.specs.declared.log.AppendError.TheVariants.{Device, LogFull, NoMemory}
 use Rattle.overlay.specs.Overlays.{FitsOver, HoldsSoFar}
@@ -127,3 +128,27 @@ returns-in-Ok-clause-pledges g c = λ v sized.
     let f = c.args.self.now in
     let costs = c.cost_of-cost.ensures.cost v sized in
     (ap (λ (n : ℕ). f.pledged + n) costs, ap (λ (n : ℕ). f.pledged_then + n) costs)
+
+-- after an error the log is the old one, but that it may have stopped
+error_keeps : {P : Type 0} (e : AppendError) (old new : LogEnd) → (IsErrOf {T = Unit {0}} (Err e) LogFull ⊎ IsErrOf {T = Unit {0}} (Err e) NoMemory → P × (new ≡ old))
+    → (IsErrOf {T = Unit {0}} (Err e) Device → new ≡ record old { is_stopped = true }) → (new.half ≡ old.half) × (next_of new.end ≡ next_of old.end)
+error_keeps NoMemory old new refused device = let same = (refused (inr refl)).1 in (ap (λ (l : LogEnd). l.half) same, ap (λ (l : LogEnd). next_of l.end) same)
+error_keeps LogFull old new refused device = let same = (refused (inl refl)).1 in (ap (λ (l : LogEnd). l.half) same, ap (λ (l : LogEnd). next_of l.end) same)
+error_keeps Device old new refused device = let same = device refl in (ap (λ (l : LogEnd). l.half) same, ap (λ (l : LogEnd). next_of l.end) same)
+
+pub invariant_of-self-in-Err-1 : goal.invariant_of-self-in-Err-1
+invariant_of-self-in-Err-1 g c =
+    let f = c.args.self.now in
+    let same = c.append.ensures.writes.same in
+    let log = error_keeps c.in-Err.error f.log c.append.new.self c.in-Err.ensures.refused c.in-Err.ensures.device in
+    record {
+      sectors = same.sectors ∙ f.sectors;
+      nvram = same.nvram_bytes ∙ f.nvram ∙ ap (λ (h : ℕ). 2 * h) (sym log.0);
+      half = log.0 ∙ f.half;
+      sizes = f.sizes;
+      count = f.count;
+      counted = f.counted;
+      few = subst (λ (n : ℕ). f.pledged_then ≤ 2 ^ 32 + MOST_COST * n) (sym log.1) f.few;
+      numbers = f.numbers;
+      is_root = f.is_root;
+    }
