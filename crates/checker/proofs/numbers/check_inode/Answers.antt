@@ -73,3 +73,9 @@ returns-else-number-inodes-clause-seen g c = λ disk i shows.
     found.1 told.0 c.mark_file-marked.ensures.keeps told.1
     (told_past disk r i c.args.number c.args.bits c.args.bytes.now c.args.marks.now c.mark_file-marked.new.marks c.args.shared.now.of c.mark_file-marked.new.shared.of c.args.trees.now.items c.args.trees.now.items
     (trees_none c.args.trees.now.items) c.inodes_are_what_their_bytes_spell.ensures.spelled c.inodes_are_what_their_bytes_spell.ensures.past are c.in-Some.inode fits found.2 kind refl past)
+
+pub returns-in_err-fault-clause-trees : goal.returns-in_err-fault-clause-trees
+returns-in_err-fault-clause-trees g c = trees_none c.args.trees.now.items
+
+pub returns-else-number-inodes-clause-trees : goal.returns-else-number-inodes-clause-trees
+returns-else-number-inodes-clause-trees g c = trees_none c.args.trees.now.items

@@ -6,7 +6,7 @@ use Rattle.layout.specs.declared.pointer.Pointer.TheVariants.{Block, Hole}
 use Rattle.checker.specs.Findings.{HasTree}
 use Rattle.checker.specs.Nodes.{StaysFor}
 use Rattle.checker.specs.Trees.{IsSeenTo}
-use Rattle.checker.proofs.HaltLaws.{if_some}
+use Rattle.checker.proofs.HaltLaws.{if_some, looks_failed, looks_residual}
 use Rattle.checker.proofs.PlaneLaws.{active_top, no_tree, snapshot_tree, told_of, tree_at, tree_named, trees_end, trees_push, trees_skip, trees_start}
 use Rattle.checker.proofs.ReadLaws.{looked, looked_more}
 use Rattle.checker.proofs.SeenLaws.{seen_stays, stays_more}
@@ -99,3 +99,8 @@ returns-clause-trees g c = λ disk shows are unmarked none.
 
 pub returns-clause-clean : goal.returns-clause-clean
 returns-clause-clean g c = λ unmarked k b other bit. unmarked k b (((c.loop-k.invariant.stays k (λ both. other both.1)).marks b).0 bit)
+
+pub returns-in_err-push-2-clause-reads : goal.returns-in_err-push-2-clause-reads
+returns-in_err-push-2-clause-reads g c =
+    looks_residual {T = Unit {0}} c.from_residual-in_err-push-2.result c.from_residual-in_err-push-2.ensures.1
+    (looks_failed (looked_more c.loop-k.invariant.read (looked_more (looked c.in_ok-name.ensures.reads) (looked c.in_ok-tree.ensures.reads))) (λ is. cc))
