@@ -18,6 +18,7 @@ pub mod ListingLemmas
 mod EntryLemmas
 pub mod NewTreeLemmas
 pub mod OwnLemmas
+mod OwnCallLemmas
 pub mod VolumeLemmas
 pub mod KeptLemmas
 pub mod PutLemmas
