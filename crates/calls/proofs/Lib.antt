@@ -1,6 +1,7 @@
 pub mod CountedLists
 pub mod TestedLaws
 pub mod LimitLaws
+pub mod MarkLaws
 pub mod DirectoryLaws
 pub mod MakeLaws
 pub mod ListLaws

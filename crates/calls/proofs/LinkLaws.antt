@@ -1,28 +1,30 @@
 -- What the definitions say of giving a file one more name over paths, by what was found in a volume.
 use Rattle.std.proofs.Common.{◌≡◌, ◌≢◌, inl, inr, ℕ, ◌+◌, ◌<◌, List, [], ◌∷◌, ◌++◌, Bool, true, false, Option, Some, None, IsSome, Result, Ok, Err, add-one, refl, sym, ap, subst, ◌∙◌}
 use Rattle.std.specs.Prelude.{nat_le}
-use Rattle.std.proofs.Math.Path.{fun_ext}
 use Rattle.std.proofs.lemmas.Bool.{cases_eq, false≢true, lt-leb, le-leb}
 use Rattle.model.specs.declared.limits.Limits.{Limits}
 use Rattle.model.specs.declared.attributes.Attributes.{Attributes}
 use Rattle.model.specs.Changes.{ChangesTree}
-use Rattle.model.specs.Changing.{links, links_object}
-use Rattle.model.specs.Edits.{with_object}
+use Rattle.model.specs.Changing.{entered, links, links_object}
+use Rattle.model.specs.Edits.{marked, with_object}
 use Rattle.model.specs.Finding.{at_refusal, IsPlaceAt}
 use Rattle.model.specs.Laws.{RecordsChangeTrees, VolumesTellLinks}
 use Rattle.model.specs.Outcomes.{Outcome, changes, goes_to, leads, refuses, tested, with_links, with_place}
 use Rattle.model.specs.Paths.{Name, Path, first_refusal, new_text_tests, text_tests}
-use Rattle.model.specs.Records.{Change, Applies, applied, link}
+use Rattle.model.specs.Records.{Change, Applies, applied, link, stamped}
 use Rattle.model.specs.Resolution.{Resolution}
 use Rattle.model.specs.Room.{Need, adds_name, logs, nothing}
 use Rattle.model.specs.Trees.{Tree, Object, Description, IsTree}
 use Rattle.model.specs.Trees as trees
-use Rattle.model.specs.Volumes.{Node, directory_node, file_node, link_node, Volume, object_at, object_of, is_directory_node, is_file_node, is_open, set_name, swept, swept_node, tree_of, with_name_more, with_node, IsMounted, IsVolume}
+use Rattle.model.specs.Touches.{touches_entry}
+use Rattle.model.specs.Volumes.{Node, directory_node, file_node, link_node, Volume, object_at, object_of, is_directory_node, is_file_node, is_open, linked, set_name, swept, swept_node, tree_of, with_name_more, with_node, IsMounted, IsVolume}
+use Rattle.model.specs.declared.attributes.Touch.TheVariants.{Status}
 use Rattle.model.specs.declared.errno.Errno.{Errno}
 use Rattle.model.specs.declared.errno.Errno.TheVariants.{DIRFULL, EEXIST, EMLINK, ENAMETOOLONG, EPERM}
 use Rattle.model.specs.declared.limits.TheConstants.{OPEN_FILES}
 use Rattle.model.specs.declared.reply.Reply.{Reply}
 use Rattle.model.specs.declared.reply.Reply.TheVariants.{Done, Refused}
+use Rattle.model.specs.declared.time.Time.{Time}
 use Rattle.model.proofs.LooseLemmas.{some_same}
 use Rattle.paths.specs.Starts.{Reaches}
 use Rattle.paths.specs.Steps.{found_in}
@@ -33,15 +35,16 @@ use Rattle.records.specs.Steps.{IsFileWithLinks}
 use Rattle.calls.specs.declared.changed.Changing.{Changing}
 use Rattle.calls.proofs.GapLaws.{FindsGap, gap_parent, place_free, place_full}
 use Rattle.calls.proofs.LeadLaws.{along_reached, along_refused, along_there}
+use Rattle.calls.proofs.MarkLaws.{entered_here, marked_unswept}
 use Rattle.calls.proofs.TestedLaws.{tested_none, tested_some}
 use Rattle.calls.proofs.PlaceLaws.{refused_at, there_at}
 use Rattle.model.proofs.ObjectLaws.{node_here, node_object, node_other}
 use Rattle.model.proofs.OptionLaws.{none_some, some_none}
 
 -- texts that don't pass their tests
-pub link_tests_refused : (limits : Limits) (v : Volume) (table : ℕ → Option Description) (old path : List ℕ) (errno : Errno) → first_refusal (text_tests limits old ++ new_text_tests limits path) ≡ Some errno
-    → links limits (tree_of v table) old path (Refused errno) (tree_of v table) nothing
-link_tests_refused limits v table old path errno is = tested_some (tree_of v table) (text_tests limits old ++ new_text_tests limits path) _ errno is
+pub link_tests_refused : (limits : Limits) (now : Option Time) (v : Volume) (table : ℕ → Option Description) (old path : List ℕ) (errno : Errno) → first_refusal (text_tests limits old ++ new_text_tests limits path) ≡ Some errno
+    → links limits now (tree_of v table) old path (Refused errno) (tree_of v table) nothing
+link_tests_refused limits now v table old path errno is = tested_some (tree_of v table) (text_tests limits old ++ new_text_tests limits path) _ errno is
 
 -- a file that has names isn't swept
 file_stays : (open_now : Bool) (attributes : Attributes) (links : ℕ) (bytes : List ℕ) → swept_node open_now (Some (file_node attributes (links + 1) bytes)) ≡ Some (file_node attributes (links + 1) bytes)
@@ -74,7 +77,7 @@ file_found (Some (link_node attributes text)) is = other is
     other : {X : Type 0} → found.Link ≡ found.File → X
     other e = cc
 
-module _ (limits : Limits) (v : Volume) (table : ℕ → Option Description) (volume : IsVolume limits v) (mounted : IsMounted v table) (tree : IsTree limits (tree_of v table)) where
+module _ (limits : Limits) (now : Option Time) (v : Volume) (table : ℕ → Option Description) (volume : IsVolume limits v) (mounted : IsMounted v table) (tree : IsTree limits (tree_of v table)) where
   abbrev t : Tree
   t = tree_of v table
 
@@ -82,53 +85,56 @@ module _ (limits : Limits) (v : Volume) (table : ℕ → Option Description) (vo
     abbrev gone : ℕ → Path → Name → Outcome
     gone n q x =
         with_links t (trees.file n)
-        (λ count. tested t ((nat_le limits.file_names count, EMLINK) ∷ []) (with_place limits t q (changes Done (with_object (q ++ x ∷ []) (trees.file n) t) (logs adds_name))))
+        (λ count. tested t ((nat_le limits.file_names count, EMLINK) ∷ []) (with_place limits t q (changes Done (entered now Status n q t (with_object (q ++ x ∷ []) (trees.file n) t)) (logs adds_name))))
 
     abbrev exists : Path → Object → Outcome
     exists q r = refuses t EEXIST
 
     abbrev there : Path → Object → Outcome
-    there p o = links_object limits t o path
+    there p o = links_object limits now t o path
 
-    led : (reply : Reply) (new : Tree) (need : Need) → goes_to t false old there reply new need → links limits t old path reply new need
+    led : (reply : Reply) (new : Tree) (need : Need) → goes_to t false old there reply new need → links limits now t old path reply new need
     led reply new need done = tested_none t (text_tests limits old ++ new_text_tests limits path) (goes_to t false old there) reply new need passed done
 
-    pub link_nowhere : (errno : Errno) → LeadsAlong t v false old (Err errno) → links limits t old path (Refused errno) t nothing
+    pub link_nowhere : (errno : Errno) → LeadsAlong t v false old (Err errno) → links limits now t old path (Refused errno) t nothing
     link_nowhere errno is = led (Refused errno) t nothing (along_refused v table false old there errno is)
 
-    no_file : (n : ℕ) (o : Option Node) (y : Object) → is_file_node o ≡ false → object_of n o ≡ Some y → links_object limits t y path (Refused EPERM) t nothing
+    no_file : (n : ℕ) (o : Option Node) (y : Object) → is_file_node o ≡ false → object_of n o ≡ Some y → links_object limits now t y path (Refused EPERM) t nothing
     no_file n None y other object = none_some object
-    no_file n (Some (directory_node attributes names)) y other object = subst (λ (z : Object). links_object limits t z path (Refused EPERM) t nothing) (some_same object) (refl, refl, refl)
+    no_file n (Some (directory_node attributes names)) y other object = subst (λ (z : Object). links_object limits now t z path (Refused EPERM) t nothing) (some_same object) (refl, refl, refl)
     no_file n (Some (file_node attributes count bytes)) y other object = absurd (false≢true (sym other))
-    no_file n (Some (link_node attributes text)) y other object = subst (λ (z : Object). links_object limits t z path (Refused EPERM) t nothing) (some_same object) (refl, refl, refl)
+    no_file n (Some (link_node attributes text)) y other object = subst (λ (z : Object). links_object limits now t z path (Refused EPERM) t nothing) (some_same object) (refl, refl, refl)
 
-    pub link_no_file : (n : ℕ) → LeadsAlong t v false old (Ok n) → is_file_node (v n) ≡ false → links limits t old path (Refused EPERM) t nothing
+    pub link_no_file : (n : ℕ) → LeadsAlong t v false old (Ok n) → is_file_node (v n) ≡ false → links limits now t old path (Refused EPERM) t nothing
     link_no_file n leads other =
         led (Refused EPERM) t nothing (along_there v table false old there n (Refused EPERM) t nothing (λ p y is. no_file n (v n) y other is.here) leads)
 
     -- the file is found, and where the new path leads
     module _ (n : ℕ) (attributes : Attributes) (count : ℕ) (bytes : List ℕ) (is : v n ≡ Some (file_node attributes count bytes)) (leads_from : LeadsAlong t v false old (Ok n))
         (target : Resolution) (reaches : Reaches t false path target) where
-      at_target : (reply : Reply) (new : Tree) (need : Need) → leads t target exists (gone n) reply new need → links limits t old path reply new need
+      at_target : (reply : Reply) (new : Tree) (need : Need) → leads t target exists (gone n) reply new need → links limits now t old path reply new need
       at_target reply new need done =
           led reply new need
           (along_there v table false old there n reply new need (λ p y here.
-          subst (λ (z : Object). links_object limits t z path reply new need) (object_file n (v n) y attributes count bytes is here.here)
+          subst (λ (z : Object). links_object limits now t z path reply new need) (object_file n (v n) y attributes count bytes is here.here)
           (along_reached t false path exists (gone n) reply new need target reaches done)) leads_from)
 
-      pub link_target_refused : (errno : Errno) → IsPlaceAt v (at_refusal errno) target → links limits t old path (Refused errno) t nothing
+      pub link_target_refused : (errno : Errno) → IsPlaceAt v (at_refusal errno) target → links limits now t old path (Refused errno) t nothing
       link_target_refused errno place = at_target (Refused errno) t nothing (refused_at v table exists (gone n) errno target place)
 
-      pub link_exists : (m : ℕ) → LeadsTo v target (Ok m) → links limits t old path (Refused EEXIST) t nothing
+      pub link_exists : (m : ℕ) → LeadsTo v target (Ok m) → links limits now t old path (Refused EEXIST) t nothing
       link_exists m leads_target = at_target (Refused EEXIST) t nothing (there_at v table exists (gone n) m (Refused EEXIST) t nothing (λ q r there. (refl, refl, refl)) target leads_target)
 
       module _ (law : RecordsChangeTrees) (tell : VolumesTellLinks) (d : ℕ) (x : Name) (gap : FindsGap limits v table volume mounted tree target d x) where
-        in_gap : (reply : Reply) (new : Tree) (need : Need) → gone n gap.path x reply new need → links limits t old path reply new need
+        in_gap : (reply : Reply) (new : Tree) (need : Need) → gone n gap.path x reply new need → links limits now t old path reply new need
         in_gap reply new need done =
             at_target reply new need (subst (λ (r : Resolution). leads t r exists (gone n) reply new need) (sym gap.is) done)
 
         abbrev change : Change
-        change = link n d x
+        change = stamped now (link n d x)
+
+        abbrev bare : Volume
+        bare = linked n d x v
 
         abbrev new : Volume
         new = applied change v
@@ -141,7 +147,7 @@ module _ (limits : Limits) (v : Volume) (table : ℕ → Option Description) (vo
             let directory = subst (λ (k : ℕ). is_directory_node (v k) ≡ true) same gap.parent in
             false≢true (sym (ap is_directory_node is) ∙ directory)
 
-        each : (k : ℕ) → swept table new k ≡ new k
+        each : (k : ℕ) → swept table bare k ≡ bare k
         each k =
             let open_now = is_open table OPEN_FILES k in
             elim (cases_eq k d) [
@@ -162,10 +168,10 @@ module _ (limits : Limits) (v : Volume) (table : ℕ → Option Description) (vo
             ]
 
         unswept : swept table new ≡ new
-        unswept = fun_ext {f = swept table new} {g = new} each
+        unswept = marked_unswept table now (touches_entry Status (Some n) (Some d)) bare each
 
         abbrev made : Tree
-        made = with_object (gap.path ++ x ∷ []) (trees.file n) t
+        made = entered now Status n gap.path t (with_object (gap.path ++ x ∷ []) (trees.file n) t)
 
         record Gives : Type 0 where
           still_mounted : IsMounted new table
@@ -174,12 +180,14 @@ module _ (limits : Limits) (v : Volume) (table : ℕ → Option Description) (vo
         gives : Applies limits v change → Gives
         gives applies =
             let told = subst (λ (w : Volume). IsMounted w table × ChangesTree change t (tree_of w table)) unswept (law limits v table change volume mounted applies tt) in
+            let there = gap_parent limits v table volume mounted tree d x target gap in
             let same : told.1.0 ≡ gap.path =
-            elim (tree.single told.1.0 gap.path (trees.directory d) (trees.directory d) told.1.1 (gap_parent limits v table volume mounted tree d x target gap) refl)
+            elim (tree.single told.1.0 gap.path (trees.directory d) (trees.directory d) told.1.1 there refl)
             [ inl e ↦ e | inr other ↦ is_no_file other.0 ] in
             record {
               still_mounted = told.0;
-              gives = told.1.2 ∙ ap (λ (p : Path). with_object (p ++ x ∷ []) (trees.file n) t) same;
+              gives = told.1.2 ∙ ap (λ (p : Path). marked now (touches_entry Status (Some n) (Some d)) (with_object (p ++ x ∷ []) (trees.file n) t)) same
+                  ∙ entered_here now Status n d gap.path t (with_object (gap.path ++ x ∷ []) (trees.file n) t) there;
             }
           where
             is_no_file : {X : Type 0} → trees.directory d ≡ trees.file d → X
@@ -191,18 +199,18 @@ module _ (limits : Limits) (v : Volume) (table : ℕ → Option Description) (vo
         few_names k few rest reply after need done =
             subst (λ (b : Bool). tested t ((b, EMLINK) ∷ []) rest reply after need) (sym (lt-leb limits.file_names k few)) done
 
-        pub link_comes : (c : Result Changing Errno) → Decides limits v (link n d x) c → Comes (links limits t old path) limits v table c
+        pub link_comes : (c : Result Changing Errno) → Decides limits v (stamped now (link n d x)) c → Comes (links limits now t old path) limits v table c
         link_comes (Ok c) (says, applies) =
             let after = tree_of new table in
             let here = gives applies in
-            subst (ComesBy (links limits t old path) limits v table) (sym says) (
+            subst (ComesBy (links limits now t old path) limits v table) (sym says) (
               applies,
               here.still_mounted,
               in_gap Done after (logs adds_name) (
-                applies.links,
-                tell limits v table n applies.attributes applies.links applies.bytes volume applies.file,
-                few_names applies.links applies.few _ Done after (logs adds_name)
-                    (place_free limits v table volume mounted tree d x target gap applies.takes (changes Done made (logs adds_name)) Done after (logs adds_name) (refl, here.gives, refl)),
+                applies.edit.links,
+                tell limits v table n applies.edit.attributes applies.edit.links applies.edit.bytes volume applies.edit.file,
+                few_names applies.edit.links applies.edit.few _ Done after (logs adds_name)
+                    (place_free limits v table volume mounted tree d x target gap applies.edit.takes (changes Done made (logs adds_name)) Done after (logs adds_name) (refl, here.gives, refl)),
               ),
             )
         link_comes (Err ENAMETOOLONG) bad = absurd (bad gap.good)

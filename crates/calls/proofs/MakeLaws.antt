@@ -1,25 +1,29 @@
 -- What the definitions say of making an object over a path, by what was found in a volume.
 use Rattle.std.proofs.Common.{◌≡◌, inl, inr, ℕ, ◌≤◌, ◌<◌, Bool, List, [], ◌∷◌, ◌++◌, true, false, Option, Some, None, IsSome, is_some, Result, Ok, Err, refl, sym, ap, subst, ◌∙◌}
-use Rattle.std.proofs.Math.Path.{fun_ext}
 use Rattle.std.proofs.lemmas.Bool.{cases_eq, false≢true}
 use Rattle.model.specs.declared.limits.Limits.{Limits}
 use Rattle.model.specs.Changes.{ChangesTree, with_made}
-use Rattle.model.specs.Changing.{creates}
+use Rattle.model.specs.Attributes.{KeepsTime}
+use Rattle.model.specs.Changing.{creates, entered}
 use Rattle.model.specs.Finding.{IsPlaceAt, at_directory, at_entry, at_missing, at_refusal, here}
 use Rattle.model.specs.Laws.{RecordsChangeTrees, VolumesTellFresh}
 use Rattle.model.specs.Outcomes.{Outcome, changes, goes_along, leads, refuses, with_fresh, with_place}
 use Rattle.model.specs.Paths.{Name, Path, first_refusal, new_text_tests}
-use Rattle.model.specs.Records.{Applies, Change, IsMade, Made, TakesName, applied, create, directory, file, is_vacant, node_of, symbolic_link}
+use Rattle.model.specs.Edits.{marked}
+use Rattle.model.specs.Records.{Applies, Change, IsMade, Made, TakesName, applied, create, directory, file, is_vacant, node_of, stamped, symbolic_link}
 use Rattle.model.specs.Resolution.{Resolution}
 use Rattle.model.specs.Room.{Need, adds_name, logs, nothing}
 use Rattle.model.specs.Trees.{Description, IsTree, Object, Tree}
 use Rattle.model.specs.Trees as trees
+use Rattle.model.specs.Touches.{touches_entry}
 use Rattle.model.specs.Volumes.{IsMounted, IsVolume, Node, Volume, created, directory_node, file_node, is_directory_node, is_open, link_node, set_name, swept, swept_node, tree_of, with_node}
+use Rattle.model.specs.declared.attributes.Touch.TheVariants.{Data}
 use Rattle.model.specs.declared.errno.Errno.{Errno}
 use Rattle.model.specs.declared.errno.Errno.TheVariants.{DIRFULL, EEXIST, NONUMBER}
 use Rattle.model.specs.declared.limits.TheConstants.{FIRST_NUMBER, OPEN_FILES}
 use Rattle.model.specs.declared.reply.Reply.{Reply}
 use Rattle.model.specs.declared.reply.Reply.TheVariants.{Done, Refused}
+use Rattle.model.specs.declared.time.Time.{Time}
 use Rattle.model.proofs.ObjectLaws.{node_here, node_other}
 use Rattle.model.proofs.SweepLemmas.{not_unused}
 use Rattle.paths.specs.Starts.{Reaches}
@@ -29,6 +33,7 @@ use Rattle.calls.specs.Making.{IsLeastFree, MakesIn}
 use Rattle.calls.specs.declared.changed.Changing.{Changing}
 use Rattle.calls.proofs.GapLaws.{FindsGap, finds_gap, gap_parent, place_free, place_full}
 use Rattle.calls.proofs.LeadLaws.{along_reached, leads_directory, leads_entry}
+use Rattle.calls.proofs.MarkLaws.{entered_here, marked_unswept}
 use Rattle.calls.proofs.TestedLaws.{tested_none, tested_some}
 use Rattle.calls.proofs.PlaceLaws.{refused_at, there_at}
 use Rattle.calls.proofs.ReachLaws.{new_text_well}
@@ -77,29 +82,29 @@ module _ (table : ℕ → Option Description) (v : Volume) (n d : ℕ) (x : Name
             ]
       ]
 
-  pub created_unswept : swept table (created n d x node v) ≡ created n d x node v
-  created_unswept = fun_ext {f = swept table (created n d x node v)} {g = created n d x node v} each
+  pub created_unswept : (now : Option Time) → swept table (applied (stamped now (create n d what x)) v) ≡ applied (stamped now (create n d what x)) v
+  created_unswept now = marked_unswept table now (touches_entry Data (Some n) (Some d)) (created n d x node v) each
 
 -- ---- a call that makes an object
 
 -- a text that doesn't pass its tests
-pub text_refused : (limits : Limits) (v : Volume) (table : ℕ → Option Description) (text : List ℕ) (make : Path → ℕ → Tree → Tree) (errno : Errno) → first_refusal (new_text_tests limits text) ≡ Some errno
-    → creates limits (tree_of v table) text make (Refused errno) (tree_of v table) nothing
-text_refused limits v table text make errno is = tested_some (tree_of v table) (new_text_tests limits text) _ errno is
+pub text_refused : (limits : Limits) (now : Option Time) (v : Volume) (table : ℕ → Option Description) (text : List ℕ) (make : Path → ℕ → Tree → Tree) (errno : Errno) → first_refusal (new_text_tests limits text) ≡ Some errno
+    → creates limits now (tree_of v table) text make (Refused errno) (tree_of v table) nothing
+text_refused limits now v table text make errno is = tested_some (tree_of v table) (new_text_tests limits text) _ errno is
 
-module _ (limits : Limits) (v : Volume) (table : ℕ → Option Description) (volume : IsVolume limits v) (mounted : IsMounted v table) (tree : IsTree limits (tree_of v table)) where
+module _ (limits : Limits) (now : Option Time) (v : Volume) (table : ℕ → Option Description) (volume : IsVolume limits v) (mounted : IsMounted v table) (tree : IsTree limits (tree_of v table)) where
   abbrev t : Tree
   t = tree_of v table
 
   module _ (text : List ℕ) (what : Made) where
     abbrev makes : Outcome
-    makes = creates limits t text (with_made what)
+    makes = creates limits now t text (with_made what)
 
     abbrev made_at : Path → ℕ → Tree
     made_at p n = with_made what p n t
 
     abbrev fresh : Path → Name → Outcome
-    fresh p name = with_fresh limits t (λ n. changes Done (made_at (p ++ name ∷ []) n) (logs adds_name))
+    fresh p name = with_fresh limits t (λ n. changes Done (entered now Data n p t (made_at (p ++ name ∷ []) n)) (logs adds_name))
 
     abbrev makes_in : Path → Name → Outcome
     makes_in p name = with_place limits t p (fresh p name)
@@ -151,21 +156,24 @@ module _ (limits : Limits) (v : Volume) (table : ℕ → Option Description) (vo
               (refl, refl, refl),
             )
 
-        module _ (fresh_law : VolumesTellFresh) (change_law : RecordsChangeTrees) where
+        module _ (fresh_law : VolumesTellFresh) (change_law : RecordsChangeTrees) (keeps : KeepsTime limits.has_attributes now) where
           module _ (good : IsMade limits what) (n : ℕ) (can : TakesName limits v d name) (free : IsLeastFree limits.inodes v n) where
             abbrev change : Change
-            change = create n d what name
+            change = stamped now (create n d what name)
 
             abbrev new : Tree
             new = tree_of (applied change v) table
 
             applies : Applies limits v change
             applies = record {
-              low = free.low;
-              high = free.high;
-              vacant = ap is_vacant free.free;
-              takes = can;
-              good = good;
+              time = keeps;
+              edit = record {
+                low = free.low;
+                high = free.high;
+                vacant = ap is_vacant free.free;
+                takes = can;
+                good = good;
+              };
             }
 
             apart : d ≡ n → ⊥
@@ -173,7 +181,7 @@ module _ (limits : Limits) (v : Volume) (table : ℕ → Option Description) (vo
 
             -- nothing is to be swept of what it leaves
             unswept : swept table (applied change v) ≡ applied change v
-            unswept = created_unswept table v n d name what gap.parent apart mounted.is_swept
+            unswept = created_unswept table v n d name what gap.parent apart mounted.is_swept now
 
             changed : IsMounted (applied change v) table × ChangesTree change t new
             changed = subst (λ (w : Volume). IsMounted w table × ChangesTree change t (tree_of w table)) unswept (change_law limits v table change volume mounted applies free.free)
@@ -182,15 +190,19 @@ module _ (limits : Limits) (v : Volume) (table : ℕ → Option Description) (vo
             made : makes Done new (logs adds_name)
             made =
                 let (p, stands, becomes) = changed.1 in
+                let there = gap_parent limits v table volume mounted tree d name r gap in
                 let same : p ≡ gap.path =
-                elim (tree.single p gap.path (trees.directory d) (trees.directory d) stands (gap_parent limits v table volume mounted tree d name r gap) refl) [ inl e ↦ e | inr other ↦ no_file other.0 ] in
+                elim (tree.single p gap.path (trees.directory d) (trees.directory d) stands there refl) [ inl e ↦ e | inr other ↦ no_file other.0 ] in
+                let gives : new ≡ entered now Data n gap.path t (made_at (gap.path ++ name ∷ []) n) =
+                becomes ∙ ap (λ (q : Path). marked now (touches_entry Data (Some n) (Some d)) (made_at (q ++ name ∷ []) n)) same
+                ∙ entered_here now Data n d gap.path t (made_at (gap.path ++ name ∷ []) n) there in
                 with_room can Done new (logs adds_name)
-                (Some n, fresh_law limits v table n volume mounted free.low free.high free.free free.least, (refl, becomes ∙ ap (λ (q : Path). made_at (q ++ name ∷ []) n) same, refl))
+                (Some n, fresh_law limits v table n volume mounted free.low free.high free.free free.least, (refl, gives, refl))
               where
                 no_file : {X : Type 0} → trees.directory d ≡ trees.file d → X
                 no_file e = cc
 
-          pub gap_comes : (told : Result Changing Errno) → MakesIn limits v d name what told → Comes makes limits v table told
+          pub gap_comes : (told : Result Changing Errno) → MakesIn limits now v d name what told → Comes makes limits v table told
           gap_comes (Err errno) (inl (is, not)) = subst (λ e. makes (Refused e) t nothing) (sym is) (dir_full not)
           gap_comes (Err errno) (inr (is, can, none)) = subst (λ e. makes (Refused e) t nothing) (sym is) (no_number can none)
           gap_comes (Ok c) (n, says, good, can, free) =

@@ -4,12 +4,12 @@ use Rattle.std.proofs.lemmas.Bool.{cases_Bool, cond-true, cond-false, false≢tr
 use Rattle.model.specs.declared.limits.Limits.{Limits}
 use Rattle.model.specs.Changing.{given_size_tests, link_text_tests, size_tests}
 use Rattle.model.specs.Paths.{Tests, first_refusal, text_tests, new_text_tests}
-use Rattle.model.specs.Records.{Change, change_mode, set_file, create, truncate, link, rename, remove_name, write}
+use Rattle.model.specs.Records.{Change, Edit, change_mode, set_file, create, truncate, link, rename, remove_name, write}
 use Rattle.model.specs.declared.errno.Errno.{Errno}
 use Rattle.model.specs.declared.errno.Errno.TheVariants.{ENOENT, ENOTDIR, ENAMETOOLONG, ELOOP, ESTALE, DAMAGED}
 use Rattle.model.proofs.LooseLemmas.{some_same}
 use Rattle.paths.specs.Refusals.{is_walk_refusal}
-use Rattle.records.specs.Obstacles.{tells_obstacle}
+use Rattle.records.specs.Obstacles.{may_bar, tells_obstacle}
 use Rattle.calls.specs.Refusals.{is_path_refusal}
 use Rattle.model.proofs.OptionLaws.{none_some}
 
@@ -51,13 +51,16 @@ given_size_own limits None e is = none_some is
 given_size_own limits (Some size) e is = size_own limits size e is
 
 -- an obstacle to a record is told by an errno of paths
+edit_own : (edit : Edit) (e : Errno) → IsTrue (may_bar edit e) → IsTrue (is_path_refusal e)
+edit_own edit DAMAGED is = refl
+edit_own (create n d made x) e is = is
+edit_own (link n d x) e is = is
+edit_own (remove_name d x) e is = is
+edit_own (rename d x k y) e is = is
+edit_own (write n offset bytes) e is = is
+edit_own (truncate n size) e is = is
+edit_own (change_mode n mode) e is = is
+edit_own (set_file n mode size) e is = is
+
 pub obstacle_own : (change : Change) (e : Errno) → IsTrue (tells_obstacle change e) → IsTrue (is_path_refusal e)
-obstacle_own change DAMAGED is = refl
-obstacle_own (create n d made x) e is = is
-obstacle_own (link n d x) e is = is
-obstacle_own (remove_name d x) e is = is
-obstacle_own (rename d x k y) e is = is
-obstacle_own (write n offset bytes) e is = is
-obstacle_own (truncate n size) e is = is
-obstacle_own (change_mode n mode) e is = is
-obstacle_own (set_file n mode size) e is = is
+obstacle_own change e is = edit_own change.edit e is

@@ -8,7 +8,7 @@ use Rattle.model.specs.Finding.{at_entry, at_missing, at_refusal, here, IsPlaceA
 use Rattle.model.specs.Laws.{BelowIsByPaths, RecordsChangeTrees, TrailsTellBelow}
 use Rattle.model.specs.Outcomes.{Outcome, goes_along, goes_to, leads, tested}
 use Rattle.model.specs.Paths.{Name, Path, IsName, Tests, first_refusal, is_root_text, new_text_tests}
-use Rattle.model.specs.Records.{CanRename, CanReplace, Change, IsBelow, applied, rename}
+use Rattle.model.specs.Records.{CanRename, CanReplace, Change, IsBelow, applied, rename, stamped}
 use Rattle.model.specs.Resolution.{Resolution, named, missing, refused}
 use Rattle.model.specs.Room.{Need, adds_name, logs, nothing}
 use Rattle.model.specs.Trees.{Tree, Object, Description, IsTree}
@@ -17,6 +17,7 @@ use Rattle.model.specs.declared.errno.Errno.{Errno}
 use Rattle.model.specs.declared.errno.Errno.TheVariants.{EBUSY, EEXIST, ENAMETOOLONG, ENOENT}
 use Rattle.model.specs.declared.reply.Reply.{Reply}
 use Rattle.model.specs.declared.reply.Reply.TheVariants.{Done, Refused}
+use Rattle.model.specs.declared.time.Time.{Time}
 use Rattle.model.proofs.LeadLemmas.{AnswersWell}
 use Rattle.model.proofs.VolumeLemmas.{directory_no_file, enters_directory}
 use Rattle.model.proofs.WalkLemmas.{number_at-push}
@@ -43,19 +44,19 @@ use Rattle.model.proofs.TestLaws.{first_append, first_in_front}
 abbrev root_test : List ℕ → List ℕ → Tests
 root_test old path = (is_root_text old || is_root_text path, EBUSY) ∷ []
 
-module _ (limits : Limits) (v : Volume) (table : ℕ → Option Description) (only_new : Bool) (old path : List ℕ) where
+module _ (limits : Limits) (now : Option Time) (v : Volume) (table : ℕ → Option Description) (only_new : Bool) (old path : List ℕ) where
   abbrev of_volume : Tree
   of_volume = tree_of v table
 
   abbrev tests : Tests
   tests = new_text_tests limits old ++ new_text_tests limits path ++ root_test old path
 
-  pub old_text_refused : (errno : Errno) → first_refusal (new_text_tests limits old) ≡ Some errno → renames limits of_volume only_new old path (Refused errno) of_volume nothing
+  pub old_text_refused : (errno : Errno) → first_refusal (new_text_tests limits old) ≡ Some errno → renames limits now of_volume only_new old path (Refused errno) of_volume nothing
   old_text_refused errno is =
       tested_some of_volume tests _ errno
       (first_in_front (new_text_tests limits old ++ new_text_tests limits path) (root_test old path) errno (first_in_front (new_text_tests limits old) (new_text_tests limits path) errno is))
 
-  pub new_text_refused : (errno : Errno) → first_refusal (new_text_tests limits old) ≡ None → first_refusal (new_text_tests limits path) ≡ Some errno → renames limits of_volume only_new old path (Refused errno) of_volume nothing
+  pub new_text_refused : (errno : Errno) → first_refusal (new_text_tests limits old) ≡ None → first_refusal (new_text_tests limits path) ≡ Some errno → renames limits now of_volume only_new old path (Refused errno) of_volume nothing
   new_text_refused errno passed is =
       tested_some of_volume tests _ errno
       (first_in_front (new_text_tests limits old ++ new_text_tests limits path) (root_test old path) errno (first_append (new_text_tests limits old) (new_text_tests limits path) passed ∙ is))
@@ -65,7 +66,7 @@ module _ (limits : Limits) (v : Volume) (table : ℕ → Option Description) (on
       first_append (new_text_tests limits old ++ new_text_tests limits path) (root_test old path) (first_append (new_text_tests limits old) (new_text_tests limits path) old_passed ∙ passed)
 
   pub root_refused : first_refusal (new_text_tests limits old) ≡ None → first_refusal (new_text_tests limits path) ≡ None → (is_root_text old || is_root_text path) ≡ true
-      → renames limits of_volume only_new old path (Refused EBUSY) of_volume nothing
+      → renames limits now of_volume only_new old path (Refused EBUSY) of_volume nothing
   root_refused old_passed passed is =
       tested_some of_volume tests _ EBUSY (at_root_test old_passed passed ∙ ap (λ (b : Bool). first_refusal ((b, EBUSY) ∷ [])) is)
 
@@ -73,7 +74,7 @@ neither_root : (a b : Bool) → a ≡ false → b ≡ false → (a || b) ≡ fal
 neither_root true b is also = absurd (false≢true (sym is))
 neither_root false b is also = also
 
-module _ (limits : Limits) (v : Volume) (table : ℕ → Option Description) (volume : IsVolume limits v) (mounted : IsMounted v table) (tree : IsTree limits (tree_of v table)) where
+module _ (limits : Limits) (now : Option Time) (v : Volume) (table : ℕ → Option Description) (volume : IsVolume limits v) (mounted : IsMounted v table) (tree : IsTree limits (tree_of v table)) where
   abbrev t : Tree
   t = tree_of v table
 
@@ -179,21 +180,21 @@ module _ (limits : Limits) (v : Volume) (table : ℕ → Option Description) (vo
 
   module _ (only_new : Bool) (old path : List ℕ) (passed : PassTests limits old path) where
     abbrev renamed : Outcome
-    renamed = renames limits t only_new old path
+    renamed = renames limits now t only_new old path
 
     abbrev onto : Path → Object → Path → Object → Outcome
-    onto p o q r = tested t ((only_new, EEXIST) ∷ []) (moves limits t p o q)
+    onto p o q r = tested t ((only_new, EEXIST) ∷ []) (moves limits now t p o q)
 
     abbrev into_gap : Path → Object → Path → Name → Outcome
-    into_gap p o q name = moves limits t p o (q ++ name ∷ [])
+    into_gap p o q name = moves limits now t p o (q ++ name ∷ [])
 
     abbrev there : Path → Object → Outcome
     there p o = goes_along t false path (onto p o) (into_gap p o)
 
     led : (reply : Reply) (new : Tree) (need : Need) → goes_to t false old there reply new need → renamed reply new need
     led reply new need done =
-        tested_none t (tests limits v table only_new old path) (goes_to t false old there) reply new need
-        (at_root_test limits v table only_new old path passed.old_passed passed.passed
+        tested_none t (tests limits now v table only_new old path) (goes_to t false old there) reply new need
+        (at_root_test limits now v table only_new old path passed.old_passed passed.passed
         ∙ ap (λ (b : Bool). first_refusal ((b, EBUSY) ∷ [])) (neither_root (is_root_text old) (is_root_text path) passed.old_below passed.below)) done
 
     pub rename_nowhere : (errno : Errno) → LeadsAlong t v false old (Err errno) → renamed (Refused errno) t nothing
@@ -207,7 +208,7 @@ module _ (limits : Limits) (v : Volume) (table : ℕ → Option Description) (vo
       found : (reply : Reply) (new : Tree) (need : Need) → ((o : Object) → object_of n (v n) ≡ Some o → leads t to (onto p o) (into_gap p o) reply new need) → renamed reply new need
       found reply new need comes =
           led reply new need
-          (entry_comes limits v table volume mounted tree law d x n from finds old begins there reply new need
+          (entry_comes limits now v table volume mounted tree law d x n from finds old begins there reply new need
           (λ o object. along_reached t false path (onto p o) (into_gap p o) reply new need to reaches (comes o object)))
 
       pub target_refused : (errno : Errno) → IsPlaceAt v (at_refusal errno) to → renamed (Refused errno) t nothing
@@ -218,26 +219,26 @@ module _ (limits : Limits) (v : Volume) (table : ℕ → Option Description) (vo
       rename_exists one m leads_to =
           found (Refused EEXIST) t nothing (λ o object.
           there_at v table (onto p o) (into_gap p o) m (Refused EEXIST) t nothing
-          (λ q r is. tested_some t ((only_new, EEXIST) ∷ []) (moves limits t p o q) EEXIST (cond-true only_new (Some EEXIST) None one)) to leads_to)
+          (λ q r is. tested_some t ((only_new, EEXIST) ∷ []) (moves limits now t p o q) EEXIST (cond-true only_new (Some EEXIST) None one)) to leads_to)
 
       module _ (below : BelowIsByPaths) (k : ℕ) (y : Name) (ends : EndsAt only_new to k y) where
-        at_end : (reply : Reply) (new : Tree) (need : Need) → ((o : Object) → object_of n (v n) ≡ Some o → moves limits t p o (ends.path ++ y ∷ []) reply new need) → renamed reply new need
-        at_end reply new need comes = found reply new need (λ o object. goes_on only_new to k y ends (moves limits t p o) reply new need (comes o object))
+        at_end : (reply : Reply) (new : Tree) (need : Need) → ((o : Object) → object_of n (v n) ≡ Some o → moves limits now t p o (ends.path ++ y ∷ []) reply new need) → renamed reply new need
+        at_end reply new need comes = found reply new need (λ o object. goes_on only_new to k y ends (moves limits now t p o) reply new need (comes o object))
 
         abbrev change : Change
-        change = rename d x k y
+        change = stamped now (rename d x k y)
 
         -- the object has the name already
         pub rename_stays : entries v k y ≡ Some n → renamed Done t nothing
         rename_stays same =
             at_end Done t nothing (λ o object.
-            move_stays limits v table volume mounted tree finds.path d x n finds.at finds.edge ends.path k y ends.at o object same)
+            move_stays limits now v table volume mounted tree finds.path d x n finds.at finds.edge ends.path k y ends.at o object same)
 
         module _ (other : entries v k y ≢ Some n) where
           obstructed : (errno : Errno) → BarsMove limits v d n k y (entries v k y) errno → renamed (Refused errno) t nothing
           obstructed errno bars =
               at_end (Refused errno) t nothing (λ o object.
-              move_barred limits v table volume mounted tree finds.path d x n finds.at finds.edge ends.path k y ends.at o object below ends.directory other ends.good errno bars)
+              move_barred limits now v table volume mounted tree finds.path d x n finds.at finds.edge ends.path k y ends.at o object below ends.directory other ends.good errno bars)
 
           -- the tests pass where the record applies
           module _ (can : CanRename limits v d x k y) where
@@ -252,20 +253,21 @@ module _ (limits : Limits) (v : Volume) (table : ℕ → Option Description) (vo
               where
                 by : (a : Option ℕ) → entries v k y ≡ a → CanReplace limits v d k y n a → first_refusal (move_tests p o (ends.path ++ y ∷ []) (t.objects (ends.path ++ y ∷ []))) ≡ None
                 by None is may =
-                    passes_none limits v table volume mounted tree finds.path d x n finds.at finds.edge ends.path k y ends.at o object below ends.directory other outside is
+                    passes_none limits now v table volume mounted tree finds.path d x n finds.at finds.edge ends.path k y ends.at o object below ends.directory other outside is
                 by (Some m) is may =
-                    passes_some limits v table volume mounted tree finds.path d x n finds.at finds.edge ends.path k y ends.at o object below ends.directory other outside m is may.1
+                    passes_some limits now v table volume mounted tree finds.path d x n finds.at finds.edge ends.path k y ends.at o object below ends.directory other outside m is may.1
 
-          pub rename_comes : (c : Result (Option Changing) Errno) → MovesName limits v d x k y c → ComesOrStays renamed limits v table c
+          pub rename_comes : (c : Result (Option Changing) Errno) → MovesName limits now v d x k y c → ComesOrStays renamed limits v table c
           rename_comes (Ok None) told = absurd told
           rename_comes (Ok (Some c)) (says, applies) =
               let after = tree_of (swept table (applied change v)) table in
+              let told = law limits v table change volume mounted applies tt in
               subst (ComesSweptBy renamed limits v table) (sym says) (
                 applies,
-                (law limits v table change volume mounted applies tt).0,
+                told.0,
                 at_end Done after (logs adds_name) (λ o object.
-                    move_done limits v table volume mounted tree finds.path d x n finds.at finds.edge ends.path k y ends.at o object below ends.directory other applies (passes applies o object)
-                    (λ rest. target_takes limits v table volume mounted tree finds.path d x n finds.at finds.edge ends.path k y ends.at o object below ends.directory other applies rest Done after (logs adds_name))),
+                    move_done limits now v table volume mounted tree finds.path d x n finds.at finds.edge ends.path k y ends.at o object below ends.directory other applies.edit (passes applies.edit o object) after told.1
+                    (λ rest. target_takes limits now v table volume mounted tree finds.path d x n finds.at finds.edge ends.path k y ends.at o object below ends.directory other applies.edit rest Done after (logs adds_name))),
               )
           rename_comes (Err ENAMETOOLONG) bad = absurd (bad ends.good)
           rename_comes (Err ENOENT) none = none_some (sym none ∙ finds.edge)

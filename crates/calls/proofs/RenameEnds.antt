@@ -3,19 +3,21 @@ use Rattle.std.proofs.Common.{◌≡◌, ◌≢◌, ℕ, List, [], ◌∷◌, �
 use Rattle.std.proofs.lemmas.Bool.{false≢true, ne_eqb}
 use Rattle.model.specs.declared.limits.Limits.{Limits}
 use Rattle.model.specs.Changing.{moves, with_target}
-use Rattle.model.specs.Edits.{moved}
+use Rattle.model.specs.Edits.{marked, moved, number_at_path}
 use Rattle.model.specs.Laws.{BelowIsByPaths}
 use Rattle.model.specs.Outcomes.{Outcome, IsListing, changes_swept, either, tested, with_place}
 use Rattle.model.specs.Paths.{Name, Path, IsName, is_empty, path_eq}
 use Rattle.model.specs.Records.{IsBelow, IsEmpty, TakesName}
 use Rattle.model.specs.Resolution.{missing, parent}
 use Rattle.model.specs.Room.{adds_name, logs, nothing}
+use Rattle.model.specs.Touches.{touches_move}
 use Rattle.model.specs.Trees.{Tree, Object, Description, IsTree}
 use Rattle.model.specs.Volumes.{Node, directory_node, file_node, link_node, Volume, entries, is_directory_node, number_at, names_in, object_at, object_of, tree_of, IsMounted, IsVolume}
 use Rattle.model.specs.declared.errno.Errno.{Errno}
 use Rattle.model.specs.declared.errno.Errno.TheVariants.{DIRFULL, EEXIST, EINVAL, EISDIR, ENOTDIR, ENOTEMPTY}
 use Rattle.model.specs.declared.reply.Reply.{Reply}
 use Rattle.model.specs.declared.reply.Reply.TheVariants.{Done, Refused}
+use Rattle.model.specs.declared.time.Time.{Time}
 use Rattle.model.proofs.LeadLemmas.{parent-push}
 use Rattle.model.proofs.WalkLemmas.{same_path}
 use Rattle.records.specs.Obstacles.{BarsMove, BarsReplacing, BarsTarget}
@@ -28,7 +30,7 @@ none_if : (o : Option ℕ) → (IsSome o → ⊥) → o ≡ None
 none_if None nothing_there = refl
 none_if (Some n) nothing_there = absurd (nothing_there refl)
 
-module _ (limits : Limits) (v : Volume) (table : ℕ → Option Description) (volume : IsVolume limits v) (mounted : IsMounted v table) (tree : IsTree limits (tree_of v table)) where
+module _ (limits : Limits) (now : Option Time) (v : Volume) (table : ℕ → Option Description) (volume : IsVolume limits v) (mounted : IsMounted v table) (tree : IsTree limits (tree_of v table)) where
   abbrev t : Tree
   t = tree_of v table
 
@@ -58,7 +60,10 @@ module _ (limits : Limits) (v : Volume) (table : ℕ → Option Description) (vo
     target = entries v k y
 
     abbrev rest : Outcome
-    rest = changes_swept Done (moved p q t) (logs adds_name)
+    rest =
+        changes_swept Done
+        (marked now (touches_move (number_at_path t p) (number_at_path t q) (number_at_path t (parent p)) (number_at_path t (parent q))) (moved p q t))
+        (logs adds_name)
 
     -- nothing has the name: its directory is full
     no_place : target ≡ None → d ≢ k → (TakesName limits v k y → ⊥) → IsName y → (a : Bool) → path_eq (parent p) (parent q) ≡ a → either a rest (with_place limits t (parent q) rest) (Refused DIRFULL) t nothing
@@ -86,7 +91,7 @@ module _ (limits : Limits) (v : Volume) (table : ℕ → Option Description) (vo
       not_replaced None some at = absurd (false≢true some)
       not_replaced (Some (directory_node attributes names)) some at =
           let (count, counts, most) = volume.keeps.children m in
-          let here = at_q limits v table volume mounted tree front d x n at_old edge w k y at_new o object ∙ is in
+          let here = at_q limits now v table volume mounted tree front d x n at_old edge w k y at_new o object ∙ is in
           let (all, are, many) = listing limits v table volume mounted tree q m here count counts in
           (all, are, not_empty q m here filled rest all are)
       not_replaced (Some (file_node attributes links bytes)) some at = absurd (no_names (Some (file_node attributes links bytes)) refl at)
@@ -96,28 +101,28 @@ module _ (limits : Limits) (v : Volume) (table : ℕ → Option Description) (vo
     at_target : (a : Option ℕ) → target ≡ a → (reply : Reply) → with_target limits t p q (object_at v a) rest reply t nothing → with_target limits t p q (t.objects q) rest reply t nothing
     at_target a is reply done =
         subst (λ (b : Option Object). with_target limits t p q b rest reply t nothing)
-        (sym (stands_q limits v table volume mounted tree front d x n at_old edge w k y at_new o object ∙ ap (object_at v) is)) done
+        (sym (stands_q limits now v table volume mounted tree front d x n at_old edge w k y at_new o object ∙ ap (object_at v) is)) done
 
     -- what keeps the object from the name is what the move is refused by
     module _ (outside : IsBelow (entries v) n k → ⊥) where
-      replacing_barred : (m : ℕ) → target ≡ Some m → (errno : Errno) → BarsReplacing v n m errno → moves limits t p o q (Refused errno) t nothing
-      replacing_barred m is ENOTDIR (one, isnt) = refused_directory limits v table volume mounted tree front d x n at_old edge w k y at_new o object law directory other outside m is one isnt
-      replacing_barred m is EISDIR (isnt, one) = refused_other limits v table volume mounted tree front d x n at_old edge w k y at_new o object law directory other outside m is isnt one
+      replacing_barred : (m : ℕ) → target ≡ Some m → (errno : Errno) → BarsReplacing v n m errno → moves limits now t p o q (Refused errno) t nothing
+      replacing_barred m is ENOTDIR (one, isnt) = refused_directory limits now v table volume mounted tree front d x n at_old edge w k y at_new o object law directory other outside m is one isnt
+      replacing_barred m is EISDIR (isnt, one) = refused_other limits now v table volume mounted tree front d x n at_old edge w k y at_new o object law directory other outside m is isnt one
       replacing_barred m is ENOTEMPTY (same, filled) =
-          past_tests limits v table volume mounted tree front d x n at_old edge w k y at_new o object law directory other
-          (passes_some limits v table volume mounted tree front d x n at_old edge w k y at_new o object law directory other outside m is same) (Refused ENOTEMPTY) t nothing
+          past_tests limits now v table volume mounted tree front d x n at_old edge w k y at_new o object law directory other
+          (passes_some limits now v table volume mounted tree front d x n at_old edge w k y at_new o object law directory other outside m is same) (Refused ENOTEMPTY) t nothing
           (at_target (Some m) is (Refused ENOTEMPTY) (not_replaced m is filled (v m) (volume.graph.naming.used k m y is) refl))
       replacing_barred m is _ bars = absurd bars
 
-      target_barred : IsName y → (a : Option ℕ) → target ≡ a → (errno : Errno) → BarsTarget limits v d n k y a errno → moves limits t p o q (Refused errno) t nothing
+      target_barred : IsName y → (a : Option ℕ) → target ≡ a → (errno : Errno) → BarsTarget limits v d n k y a errno → moves limits now t p o q (Refused errno) t nothing
       target_barred name (Some m) is errno bars = replacing_barred m is errno bars
       target_barred name None is DIRFULL (apart, full) =
-          past_tests limits v table volume mounted tree front d x n at_old edge w k y at_new o object law directory other
-          (passes_none limits v table volume mounted tree front d x n at_old edge w k y at_new o object law directory other outside is) (Refused DIRFULL) t nothing
+          past_tests limits now v table volume mounted tree front d x n at_old edge w k y at_new o object law directory other
+          (passes_none limits now v table volume mounted tree front d x n at_old edge w k y at_new o object law directory other outside is) (Refused DIRFULL) t nothing
           (at_target None is (Refused DIRFULL) (no_place is apart full name (path_eq (parent p) (parent q)) refl))
       target_barred name None is _ bars = absurd bars
 
-    pub move_barred : IsName y → (errno : Errno) → BarsMove limits v d n k y target errno → moves limits t p o q (Refused errno) t nothing
+    pub move_barred : IsName y → (errno : Errno) → BarsMove limits v d n k y target errno → moves limits now t p o q (Refused errno) t nothing
     move_barred name EEXIST bars = absurd (other bars)
-    move_barred name EINVAL bars = refused_below limits v table volume mounted tree front d x n at_old edge w k y at_new o object law directory other bars.1
+    move_barred name EINVAL bars = refused_below limits now v table volume mounted tree front d x n at_old edge w k y at_new o object law directory other bars.1
     move_barred name errno bars = target_barred bars.1 name target refl errno bars.2

@@ -9,28 +9,30 @@ use Rattle.std.proofs.lemmas.Bool.Decides.{nat_tests}
 use Rattle.model.specs.declared.limits.Limits.{Limits}
 use Rattle.model.specs.Changing.{is_same_file, move_tests, moves, with_target}
 use Rattle.model.specs.Laws.{BelowIsByPaths}
-use Rattle.model.specs.Edits.{moved}
+use Rattle.model.specs.Changes.{ChangesBy}
+use Rattle.model.specs.Edits.{marked, moved, number_at_path, IsSwept}
 use Rattle.model.specs.Outcomes.{Outcome, answers, changes_swept, either, with_place}
 use Rattle.model.specs.Paths.{Name, Path, Tests, behind, begins_with, first_refusal, path_eq}
-use Rattle.model.specs.Records.{CanRename, CanReplace, IsBelow, TakesName, applied, rename}
+use Rattle.model.specs.Records.{CanRename, CanReplace, IsBelow, TakesName, rename}
 use Rattle.model.specs.Resolution.{parent}
 use Rattle.model.specs.Room.{Need, adds_name, logs, nothing}
 use Rattle.model.specs.Trees.{Tree, Object, Description, IsTree, is_directory, number_of_object}
 use Rattle.model.specs.Trees as trees
-use Rattle.model.specs.Volumes.{Node, directory_node, file_node, link_node, Volume, enter, entries, is_directory_node, number_at, object_at, object_of, swept, tree_of, IsMounted, IsVolume}
+use Rattle.model.specs.Touches.{touches_move}
+use Rattle.model.specs.Volumes.{Node, directory_node, file_node, link_node, Volume, enter, entries, is_directory_node, number_at, object_at, object_of, tree_of, IsMounted, IsVolume}
 use Rattle.model.specs.declared.errno.Errno.{Errno}
 use Rattle.model.specs.declared.errno.Errno.TheVariants.{ENOTDIR, EISDIR, EINVAL, DIRFULL}
 use Rattle.model.specs.declared.reply.Reply.{Reply}
 use Rattle.model.specs.declared.reply.Reply.TheVariants.{Done, Refused}
+use Rattle.model.specs.declared.time.Time.{Time}
 use Rattle.model.proofs.KeptLemmas.{is_apart}
 use Rattle.model.proofs.LeadLemmas.{parent-push}
-use Rattle.model.proofs.RenameLemmas.{rename_done}
 use Rattle.model.proofs.VolumeLemmas.{directory_no_file, enters_directory}
 use Rattle.model.proofs.WalkLemmas.{behind-append, behind-is, number_at-push, path_eq-same, same_path}
 use Rattle.calls.proofs.DirectoryLaws.{child_some, listing}
+use Rattle.calls.proofs.MarkLaws.{parent_number}
 use Rattle.calls.proofs.TestedLaws.{tested_none, tested_some}
 use Rattle.calls.proofs.RenameTests.{above_directory}
-use Rattle.records.proofs.FileLaws.{same_some}
 use Rattle.model.proofs.ObjectLaws.{directory_object, directory_of, node_object, object_number}
 use Rattle.model.proofs.OptionLaws.{none_some}
 
@@ -85,7 +87,7 @@ pub not_either : (this that : Outcome) (a : Bool) → a ≡ false → (reply : R
 not_either this that true is reply new need done = absurd (false≢true (sym is))
 not_either this that false is reply new need done = done
 
-module _ (limits : Limits) (v : Volume) (table : ℕ → Option Description) (volume : IsVolume limits v) (mounted : IsMounted v table) (tree : IsTree limits (tree_of v table)) where
+module _ (limits : Limits) (now : Option Time) (v : Volume) (table : ℕ → Option Description) (volume : IsVolume limits v) (mounted : IsMounted v table) (tree : IsTree limits (tree_of v table)) where
   abbrev t : Tree
   t = tree_of v table
 
@@ -204,7 +206,15 @@ module _ (limits : Limits) (v : Volume) (table : ℕ → Option Description) (vo
       -- ---- what a move comes to
 
       abbrev outcome : Outcome
-      outcome = moves limits t p o q
+      outcome = moves limits now t p o q
+
+      -- the tree that a move leaves, but for what is swept, by what the two directories are
+      abbrev left_at : Path → Path → Option ℕ → Option ℕ → Tree
+      left_at a b m j =
+          marked now (touches_move (number_at_path t (a ++ x ∷ [])) (number_at_path t (b ++ y ∷ [])) m j) (moved (a ++ x ∷ []) (b ++ y ∷ []) t)
+
+      abbrev left : Tree
+      left = left_at front w (number_at_path t (parent p)) (number_at_path t (parent q))
 
       first_refused : (errno : Errno) → refusal ≡ Some errno → outcome (Refused errno) t nothing
       first_refused errno is =
@@ -227,35 +237,41 @@ module _ (limits : Limits) (v : Volume) (table : ℕ → Option Description) (vo
 
       -- the target decides where the tests pass
       pub past_tests : refusal ≡ None → (reply : Reply) (new : Tree) (need : Need)
-          → with_target limits t p q (t.objects q) (changes_swept Done (moved p q t) (logs adds_name)) reply new need → outcome reply new need
+          → with_target limits t p q (t.objects q) (changes_swept Done left (logs adds_name)) reply new need → outcome reply new need
       past_tests passed reply new need done =
           not_either _ _ (path_eq p q || is_same_file o (t.objects q)) (other_there other) reply new need
           (tested_none t (move_tests p o q (t.objects q)) _ reply new need passed done)
 
       -- the record, where it applies, does what the call does
       module _ (can : CanRename limits v d x k y) where
-        same_number : can.number ≡ n
-        same_number = same_some (sym can.there ∙ edge)
-
         emptied : (m : ℕ) (z : Name) → entries v k y ≡ Some m → entries v m z ≡ None
         emptied m z is = (subst (λ (a : Option ℕ). CanReplace limits v d k y can.number a) is can.replaces).2 z
 
-        above_only : behind p w ≡ None
-        above_only = by (behind p w) refl
+        old_stands : t.objects front ≡ Some (trees.directory d)
+        old_stands = ap (object_at v) at_old ∙ directory_object d (v d) (enters_directory (v d) x n edge)
+
+        new_stands : t.objects w ≡ Some (trees.directory k)
+        new_stands = ap (object_at v) at_new ∙ directory_object k (v k) directory
+
+        -- a directory stands at one path alone
+        one_path : (a b : Path) (j : ℕ) → t.objects a ≡ Some (trees.directory j) → t.objects b ≡ Some (trees.directory j) → a ≡ b
+        one_path a b j here there = elim (tree.single a b (trees.directory j) (trees.directory j) here there refl) [ inl one ↦ one | inr file ↦ no_file file.0 ]
           where
-            by : (a : Option Path) → behind p w ≡ a → behind p w ≡ None
-            by None is = is
-            by (Some u) is = absurd (can.outside (subst (λ (j : ℕ). IsBelow (entries v) j k) (sym same_number) (below_paths.1 (ap is_some is))))
+            no_file : {X : Type 0} → trees.directory j ≡ trees.file j → X
+            no_file e = cc
 
         -- where its target can take it
-        pub move_done : refusal ≡ None
-            → ((rest : Outcome) → rest Done (tree_of (swept table (applied (rename d x k y) v)) table) (logs adds_name)
-            → with_target limits t p q (t.objects q) rest Done (tree_of (swept table (applied (rename d x k y) v)) table) (logs adds_name))
-            → outcome Done (tree_of (swept table (applied (rename d x k y) v)) table) (logs adds_name)
-        move_done passed takes =
-            rename_done v volume.graph table mounted.bounded mounted.files front w x y d k n at_old at_new edge
-            (enters_directory (v d) x n edge) directory emptied above_only (paths_differ other) other can.name
-            limits o (other_there other) passed takes
+        pub move_done : refusal ≡ None → (after : Tree) → ChangesBy now (rename d x k y) t after
+            → ((rest : Outcome) → rest Done after (logs adds_name) → with_target limits t p q (t.objects q) rest Done after (logs adds_name))
+            → outcome Done after (logs adds_name)
+        move_done passed after (a, b, stands_a, stands_b, is) takes = past_tests passed Done after (logs adds_name) (takes (changes_swept Done left (logs adds_name)) (refl, swept_so, refl))
+          where
+            swept_so : IsSwept left after
+            swept_so =
+                subst (λ (j : Option ℕ). IsSwept (left_at front w (number_at_path t (parent p)) j) after) (sym (parent_number t w y k new_stands))
+                (subst (λ (m : Option ℕ). IsSwept (left_at front w m (Some k)) after) (sym (parent_number t front x d old_stands))
+                (subst (λ (g : Path). IsSwept (left_at front g (Some d) (Some k)) after) (one_path b w k stands_b new_stands)
+                (subst (λ (f : Path). IsSwept (left_at f b (Some d) (Some k)) after) (one_path a front d stands_a old_stands) is)))
 
         -- its target can take it
         pub target_takes : (rest : Outcome) (reply : Reply) (new : Tree) (need : Need) → rest reply new need → with_target limits t p q (t.objects q) rest reply new need
@@ -297,12 +313,6 @@ module _ (limits : Limits) (v : Volume) (table : ℕ → Option Description) (vo
                           | inr file ↦ no_file file.0
                         ]
                       where
-                        old_stands : t.objects front ≡ Some (trees.directory d)
-                        old_stands = ap (object_at v) at_old ∙ directory_object d (v d) (enters_directory (v d) x n edge)
-
-                        new_stands : t.objects w ≡ Some (trees.directory k)
-                        new_stands = ap (object_at v) at_new ∙ directory_object k (v k) directory
-
                         no_file : {X : Type 0} → trees.directory d ≡ trees.file d → X
                         no_file e = cc
 
@@ -321,7 +331,7 @@ module _ (limits : Limits) (v : Volume) (table : ℕ → Option Description) (vo
             by None is = free (subst (CanReplace limits v d k y can.number) is can.replaces)
             by (Some m) is = at_node m (v m) (volume.graph.naming.used k m y is) refl is
 
-    pub move_stays : target ≡ Some n → moves limits t p o q Done t nothing
+    pub move_stays : target ≡ Some n → moves limits now t p o q Done t nothing
     move_stays is = by _ (path_eq p q || is_same_file o (t.objects q)) (same_there is)
       where
         by : (that : Outcome) (a : Bool) → a ≡ true → either a (answers t Done) that Done t nothing

@@ -259,28 +259,28 @@ no_reading : {X : Type 0} → IsTrue false → X
 no_reading is = absurd (false≢true is)
 
 pub reading_forgets : ReadingForgets
-reading_forgets limits old new (call.List path) reply forgets reading told =
+reading_forgets limits now old new (call.List path) reply forgets reading told =
     led_same old new forgets reply (listed old) (listed new) (lists_same old new forgets reply) true (text_tests limits path) path told
-reading_forgets limits old new (call.Entries path behind count) reply forgets reading told =
+reading_forgets limits now old new (call.Entries path behind count) reply forgets reading told =
     led_same old new forgets reply (told_in_part (nat_abs behind) count old) (told_in_part (nat_abs behind) count new) (parts_same old new forgets reply (nat_abs behind) count) true
     (text_tests_then limits ((is_negative behind || count == 0 || nat_lt ENTRIES_TOLD count, EINVAL) ∷ []) path) path told
-reading_forgets limits old new (call.Stat path) reply forgets reading told =
+reading_forgets limits now old new (call.Stat path) reply forgets reading told =
     led_same old new forgets reply (told_of old) (told_of new) (stats_same old new forgets reply) true (text_tests limits path) path told
-reading_forgets limits old new (call.Lstat path) reply forgets reading told =
+reading_forgets limits now old new (call.Lstat path) reply forgets reading told =
     led_same old new forgets reply (told_of old) (told_of new) (stats_same old new forgets reply) false (text_tests limits path) path told
-reading_forgets limits old new (call.Readlink path) reply forgets reading told =
+reading_forgets limits now old new (call.Readlink path) reply forgets reading told =
     led_same old new forgets reply (linked old) (linked new) (links_same old new forgets reply) false (text_tests limits path) path told
-reading_forgets limits old new (call.Get path offset count) reply forgets reading told =
+reading_forgets limits now old new (call.Get path offset count) reply forgets reading told =
     led_same old new forgets reply (got (nat_abs offset) count old) (got (nat_abs offset) count new) (gets_same old new forgets reply (nat_abs offset) count) true
     (text_tests_then limits ((is_negative offset || is_too_many count, EINVAL) ∷ []) path) path told
-reading_forgets limits old new (call.Mkdir path mode) reply forgets reading told = no_reading reading
-reading_forgets limits old new (call.Rmdir path) reply forgets reading told = no_reading reading
-reading_forgets limits old new (call.Unlink path) reply forgets reading told = no_reading reading
-reading_forgets limits old new (call.Link from path) reply forgets reading told = no_reading reading
-reading_forgets limits old new (call.Symlink text path) reply forgets reading told = no_reading reading
-reading_forgets limits old new (call.Rename from path) reply forgets reading told = no_reading reading
-reading_forgets limits old new (call.RenameNew from path) reply forgets reading told = no_reading reading
-reading_forgets limits old new (call.Chmod path mode) reply forgets reading told = no_reading reading
-reading_forgets limits old new (call.Truncate path size) reply forgets reading told = no_reading reading
-reading_forgets limits old new (call.Store path offset bytes) reply forgets reading told = no_reading reading
-reading_forgets limits old new (call.Set path settings) reply forgets reading told = no_reading reading
+reading_forgets limits now old new (call.Mkdir path mode) reply forgets reading told = no_reading reading
+reading_forgets limits now old new (call.Rmdir path) reply forgets reading told = no_reading reading
+reading_forgets limits now old new (call.Unlink path) reply forgets reading told = no_reading reading
+reading_forgets limits now old new (call.Link from path) reply forgets reading told = no_reading reading
+reading_forgets limits now old new (call.Symlink text path) reply forgets reading told = no_reading reading
+reading_forgets limits now old new (call.Rename from path) reply forgets reading told = no_reading reading
+reading_forgets limits now old new (call.RenameNew from path) reply forgets reading told = no_reading reading
+reading_forgets limits now old new (call.Chmod path mode) reply forgets reading told = no_reading reading
+reading_forgets limits now old new (call.Truncate path size) reply forgets reading told = no_reading reading
+reading_forgets limits now old new (call.Store path offset bytes) reply forgets reading told = no_reading reading
+reading_forgets limits now old new (call.Set path settings) reply forgets reading told = no_reading reading

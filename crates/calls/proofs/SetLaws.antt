@@ -1,15 +1,14 @@
 -- What the definitions say of giving a mode and a size, by what was found in a volume.
-use Rattle.std.proofs.Common.{◌≡◌, ◌≢◌, ◌∙◌, ◌||◌, inl, inr, ℕ, ℤ, nat_abs, List, Bool, true, false, ◌==◌, length, Option, Some, None, IsSome, is_some, Result, Ok, Err, IsTrue, refl, sym, ap, subst, eq-eqb}
+use Rattle.std.proofs.Common.{◌≡◌, ◌≢◌, ◌∙◌, ◌||◌, inl, inr, ℕ, ℤ, nat_abs, List, Bool, true, false, length, Option, Some, None, IsSome, Result, Ok, Err, IsTrue, refl, sym, ap, subst}
 use Rattle.std.specs.Result.{IsOkAnd}
 use Rattle.std.proofs.Math.Path.{fun_ext}
 use Rattle.std.proofs.lemmas.Bool.{false≢true}
 use Rattle.model.specs.declared.limits.Limits.{Limits}
-use Rattle.model.specs.Changing.{given_size_tests, sets, sets_both, sets_mode, sets_object, truncates_file}
-use Rattle.model.specs.Edits.{contents, with_mode}
+use Rattle.model.specs.Changing.{given_size_tests, is_idle_size, sets, sets_both, sets_mode, sets_object, truncates_file}
 use Rattle.model.specs.Laws.{RecordsChangeTrees}
 use Rattle.model.specs.Outcomes.{Outcome, changes}
 use Rattle.model.specs.Paths.{Path, Tests, first_refusal, text_tests_then}
-use Rattle.model.specs.Records.{Change, Applies, applied, change_mode, set_file, truncate, work_of}
+use Rattle.model.specs.Records.{Change, Applies, applied, change_mode, set_file, stamped, truncate, work_of}
 use Rattle.model.specs.Room.{Need, logs, nothing, changes_bits}
 use Rattle.model.specs.Trees.{Tree, Object, Description}
 use Rattle.model.specs.Trees as trees
@@ -19,13 +18,14 @@ use Rattle.model.specs.declared.errno.Errno.{Errno}
 use Rattle.model.specs.declared.errno.Errno.TheVariants.{DAMAGED}
 use Rattle.model.specs.declared.reply.Reply.{Reply}
 use Rattle.model.specs.declared.reply.Reply.TheVariants.{Done, Refused}
+use Rattle.model.specs.declared.time.Time.{Time}
 use Rattle.model.proofs.LooseLemmas.{some_same}
 use Rattle.paths.specs.Steps.{found_in}
 use Rattle.paths.specs.declared.lookup.Found.TheVariants as found
 use Rattle.records.specs.Obstacles.{IsObstacle}
 use Rattle.records.specs.Rewriting.{GoesOver, SetsBoth}
 use Rattle.calls.specs.Leading.{IsLed}
-use Rattle.calls.specs.Changing.{ComesBy, ComesOrStays, ComesSweptBy, said_by}
+use Rattle.calls.specs.Changing.{ComesBy, ComesOrStays, ComesSweptBy, change_by}
 use Rattle.calls.specs.Truncate.{TruncatesFile}
 use Rattle.calls.specs.declared.changed.Changing.{Changing}
 use Rattle.calls.proofs.LeadLaws.{led_refused, led_some, led_there}
@@ -36,9 +36,9 @@ use Rattle.model.proofs.OptionLaws.{none_some}
 
 -- ---- where a path leads
 
-pub set_refused : (limits : Limits) (v : Volume) (table : ℕ → Option Description) (text : List ℕ) (settings : Settings) (errno : Errno) → first_refusal (text_tests_then limits (given_size_tests limits settings.size) text) ≡ Some errno
-    → sets limits (tree_of v table) text settings (Refused errno) (tree_of v table) nothing
-set_refused limits v table text settings errno is = tested_some (tree_of v table) (text_tests_then limits (given_size_tests limits settings.size) text) _ errno is
+pub set_refused : (limits : Limits) (now : Option Time) (v : Volume) (table : ℕ → Option Description) (text : List ℕ) (settings : Settings) (errno : Errno) → first_refusal (text_tests_then limits (given_size_tests limits settings.size) text) ≡ Some errno
+    → sets limits now (tree_of v table) text settings (Refused errno) (tree_of v table) nothing
+set_refused limits now v table text settings errno is = tested_some (tree_of v table) (text_tests_then limits (given_size_tests limits settings.size) text) _ errno is
 
 -- what is there is an object
 object_there : (n : ℕ) (o : Option Node) → IsSome o → (x : Object) × (object_of n o ≡ Some x)
@@ -47,7 +47,7 @@ object_there n (Some (directory_node attributes names)) some = (trees.directory 
 object_there n (Some (file_node attributes links bytes)) some = (trees.file n, refl)
 object_there n (Some (link_node attributes text)) some = (trees.symlink n text, refl)
 
-module _ (limits : Limits) (v : Volume) (table : ℕ → Option Description) (text : List ℕ) (settings : Settings) where
+module _ (limits : Limits) (now : Option Time) (v : Volume) (table : ℕ → Option Description) (text : List ℕ) (settings : Settings) where
   abbrev t : Tree
   t = tree_of v table
 
@@ -55,20 +55,20 @@ module _ (limits : Limits) (v : Volume) (table : ℕ → Option Description) (te
   tests = text_tests_then limits (given_size_tests limits settings.size) text
 
   abbrev there : Path → Object → Outcome
-  there p o = sets_object t settings o
+  there p o = sets_object now t settings o
 
-  pub set_nowhere : (errno : Errno) → IsLed tests t v true text (Err errno) → sets limits t text settings (Refused errno) t nothing
+  pub set_nowhere : (errno : Errno) → IsLed tests t v true text (Err errno) → sets limits now t text settings (Refused errno) t nothing
   set_nowhere errno led = led_refused v table true text there tests errno led
 
   -- what is given to the object there is what the call comes to
   pub set_comes : (n : ℕ) → IsLed tests t v true text (Ok n) → (r : Result (Option Changing) Errno)
-      → ((o : Object) → object_of n (v n) ≡ Some o → ComesOrStays (sets_object t settings o) limits v table r) → ComesOrStays (sets limits t text settings) limits v table r
+      → ((o : Object) → object_of n (v n) ≡ Some o → ComesOrStays (sets_object now t settings o) limits v table r) → ComesOrStays (sets limits now t text settings) limits v table r
   set_comes n led (Err errno) given = led_there v table true text there n (Refused errno) t nothing (λ p x stands. given x stands.here) tests led
   set_comes n led (Ok None) given = led_there v table true text there n Done t nothing (λ p x stands. given x stands.here) tests led
   set_comes n led (Ok (Some c)) given =
       let x = object_there n (v n) (led_some t v true text n led.1) in
       let one = given x.0 x.1 in
-      let change = said_by c.change in
+      let change = change_by c in
       (one.0, one.1, led_there v table true text there n Done (tree_of (swept table (applied change v)) table) (logs (work_of v change)) (λ p y stands. (given y stands.here).2) tests led)
 
 -- ---- what is found
@@ -98,20 +98,20 @@ file_has_mode o is = ap (λ (b : Bool). b || is_directory_node o) is
 -- ---- a mode
 
 -- a record that changes a mode applies, and this is it, or there is an obstacle
-abbrev pub DecidesMode : Limits → Volume → ℕ → ℕ → Result (Option Changing) Errno → Type 0
-DecidesMode limits v n mode (Ok (Some c)) = (said_by c.change ≡ change_mode n mode) × Applies limits v (change_mode n mode)
-DecidesMode limits v n mode (Ok None) = ⊥
-DecidesMode limits v n mode (Err errno) = IsObstacle limits v (change_mode n mode) errno
+abbrev pub DecidesMode : Limits → Option Time → Volume → ℕ → ℕ → Result (Option Changing) Errno → Type 0
+DecidesMode limits now v n mode (Ok (Some c)) = (change_by c ≡ stamped now (change_mode n mode)) × Applies limits v (stamped now (change_mode n mode))
+DecidesMode limits now v n mode (Ok None) = ⊥
+DecidesMode limits now v n mode (Err errno) = IsObstacle limits v (stamped now (change_mode n mode)) errno
 
-pub sets_mode_comes : (limits : Limits) (v : Volume) (table : ℕ → Option Description) (volume : IsVolume limits v) (mounted : IsMounted v table) (law : RecordsChangeTrees) (n mode : ℕ) (r : Result (Option Changing) Errno)
-    → IsTrue (is_file_node (v n) || is_directory_node (v n)) → DecidesMode limits v n mode r → ComesOrStays (sets_mode (tree_of v table) n (Some mode)) limits v table r
-sets_mode_comes limits v table volume mounted law n mode (Ok None) is decides = absurd decides
-sets_mode_comes limits v table volume mounted law n mode (Err DAMAGED) is decides = absurd (false≢true (sym decides ∙ is))
-sets_mode_comes limits v table volume mounted law n mode (Err _) is decides = absurd decides
-sets_mode_comes limits v table volume mounted law n mode (Ok (Some c)) is (says, applies) =
-    let changed = mode_changed limits v table mode volume mounted law n applies in
-    comes_swept (sets_mode (tree_of v table) n (Some mode)) limits v table (Ok c)
-    (subst (ComesBy (sets_mode (tree_of v table) n (Some mode)) limits v table) (sym says) (applies, changed.0, (refl, changed.1, refl)))
+pub sets_mode_comes : (limits : Limits) (now : Option Time) (v : Volume) (table : ℕ → Option Description) (volume : IsVolume limits v) (mounted : IsMounted v table) (law : RecordsChangeTrees) (n mode : ℕ) (r : Result (Option Changing) Errno)
+    → IsTrue (is_file_node (v n) || is_directory_node (v n)) → DecidesMode limits now v n mode r → ComesOrStays (sets_mode now (tree_of v table) n (Some mode)) limits v table r
+sets_mode_comes limits now v table volume mounted law n mode (Ok None) is decides = absurd decides
+sets_mode_comes limits now v table volume mounted law n mode (Err DAMAGED) is decides = absurd (false≢true (sym decides ∙ is))
+sets_mode_comes limits now v table volume mounted law n mode (Err _) is decides = absurd decides
+sets_mode_comes limits now v table volume mounted law n mode (Ok (Some c)) is (says, applies) =
+    let changed = mode_changed limits now v table mode volume mounted law n applies in
+    comes_swept (sets_mode now (tree_of v table) n (Some mode)) limits v table (Ok c)
+    (subst (ComesBy (sets_mode now (tree_of v table) n (Some mode)) limits v table) (sym says) (applies, changed.0, (refl, changed.1, refl)))
 
 -- ---- a size
 
@@ -120,7 +120,7 @@ whole : (w : Volume) (table : ℕ → Option Description) → IsMounted w table 
 whole w table mounted = fun_ext {f = swept table w} {g = w} mounted.is_swept
 
 -- what a record does where nothing is swept
-unswept : (outcome : Outcome) (limits : Limits) (v : Volume) (table : ℕ → Option Description) (change : Change) (c : Changing) → said_by c.change ≡ change → GoesOver limits v table change
+unswept : (outcome : Outcome) (limits : Limits) (v : Volume) (table : ℕ → Option Description) (change : Change) (c : Changing) → change_by c ≡ change → GoesOver limits v table change
     → outcome Done (tree_of (applied change v) table) (logs (work_of v change)) → ComesOrStays outcome limits v table (Ok (Some c))
 unswept outcome limits v table change c says over done =
     let same = sym (whole (applied change v) table over.1) in
@@ -130,21 +130,19 @@ unswept outcome limits v table change c says over done =
       subst (λ (w : Volume). outcome Done (tree_of w table) (logs (work_of v change))) same done,
     )
 
-pub truncate_file_comes : (limits : Limits) (v : Volume) (table : ℕ → Option Description) (n size : ℕ) (r : Result (Option Changing) Errno) → IsOkAnd r (TruncatesFile limits v table n size)
-    → ComesOrStays (truncates_file (tree_of v table) n size) limits v table r
-truncate_file_comes limits v table n size (Err errno) truncates = absurd truncates
-truncate_file_comes limits v table n size (Ok None) truncates = truncates
-truncate_file_comes limits v table n size (Ok (Some c)) (says, (over, done)) = unswept (truncates_file (tree_of v table) n size) limits v table (truncate n size) c says over done
+pub truncate_file_comes : (limits : Limits) (now : Option Time) (v : Volume) (table : ℕ → Option Description) (n size : ℕ) (r : Result (Option Changing) Errno) → IsOkAnd r (TruncatesFile limits now v table n size)
+    → ComesOrStays (truncates_file now (tree_of v table) n size) limits v table r
+truncate_file_comes limits now v table n size (Err errno) truncates = absurd truncates
+truncate_file_comes limits now v table n size (Ok None) truncates = truncates
+truncate_file_comes limits now v table n size (Ok (Some c)) (says, (over, done)) = unswept (truncates_file now (tree_of v table) n size) limits v table (stamped now (truncate n size)) c says over done
 
 -- ---- both
 
-pub sets_both_comes : (limits : Limits) (v : Volume) (table : ℕ → Option Description) (n mode size : ℕ) (c : Changing) → said_by c.change ≡ set_file n mode size
-    → SetsBoth limits v table n mode size (Ok (Some c.prepared)) → ComesOrStays (sets_both (tree_of v table) n mode size) limits v table (Ok (Some c))
-sets_both_comes limits v table n mode size c says (over, done) = unswept (sets_both (tree_of v table) n mode size) limits v table (set_file n mode size) c says over done
+pub sets_both_comes : (limits : Limits) (now : Option Time) (v : Volume) (table : ℕ → Option Description) (n mode size : ℕ) (c : Changing) → change_by c ≡ stamped now (set_file n mode size)
+    → SetsBoth limits now v table n mode size (Ok (Some c.prepared)) → ComesOrStays (sets_both now (tree_of v table) n mode size) limits v table (Ok (Some c))
+sets_both_comes limits now v table n mode size c says (over, done) = unswept (sets_both now (tree_of v table) n mode size) limits v table (stamped now (set_file n mode size)) c says over done
 
--- the mode alone, where the size is the old one
-pub sets_mode_alone : (limits : Limits) (v : Volume) (table : ℕ → Option Description) (n mode size : ℕ) (r : Result (Option Changing) Errno) → size ≡ length (contents (tree_of v table) n)
-    → ComesOrStays (sets_mode (tree_of v table) n (Some mode)) limits v table r → ComesOrStays (sets_both (tree_of v table) n mode size) limits v table r
-sets_mode_alone limits v table n mode size r same comes =
-    let test : (size == length (contents (tree_of v table) n)) ≡ true = eq-eqb size (length (contents (tree_of v table) n)) same in
-    rw test comes
+-- the mode alone, where the size changes nothing
+pub sets_mode_alone : (limits : Limits) (now : Option Time) (v : Volume) (table : ℕ → Option Description) (n mode size : ℕ) (r : Result (Option Changing) Errno) → is_idle_size now n size (tree_of v table) ≡ true
+    → ComesOrStays (sets_mode now (tree_of v table) n (Some mode)) limits v table r → ComesOrStays (sets_both now (tree_of v table) n mode size) limits v table r
+sets_mode_alone limits now v table n mode size r idle comes = rw idle comes

@@ -9,6 +9,7 @@ use Rattle.model.specs.Resolution.{Resolution}
 use Rattle.model.specs.Trees.{Tree}
 use Rattle.model.specs.Volumes.{Volume, IsVolume, tree_of}
 use Rattle.model.specs.declared.errno.Errno.{Errno}
+use Rattle.model.specs.declared.time.Time.{Time}
 use Rattle.model.specs.declared.limits.TheConstants.{ROOT_NUMBER}
 use Rattle.buffers.specs.Errors.{IsFault}
 use Rattle.buffers.specs.declared.error.BlockError.{BlockError}
@@ -121,10 +122,10 @@ leads_by {G = G} {a = a} {b = b} {s = s} {t = t} {follow = follow} {text = text}
 }
 
 -- a place tells why nothing stands where a path leads, and the call is refused so
-pub finds_none : {B T : Type 0} {changes : T → Option Changing} {G : Ghosts B} {a b : B} {s t : InodeFile} {P : Answer T} {follow : Bool} {text : List ℕ} {p : Place} {errno : Errno}
+pub finds_none : {B T : Type 0} {changes : T → Option Changing} {now : Option Time} {G : Ghosts B} {a b : B} {s t : InodeFile} {P : Answer T} {follow : Bool} {text : List ℕ} {p : Place} {errno : Errno}
     → ResolvesPlace G a b s t text follow (Ok p) → LeadsUpNowhere text → led_of p ≡ Err errno
     → OnMounted G a s (λ v table. LeadsAlong (tree_of v table) v follow text (Err errno) → P (limits_of s.geometry) v table (Err errno))
-    → PreparesWith changes G a b s t P (Err (Refused errno))
+    → PreparesWith changes now G a b s t P (Err (Refused errno))
 finds_none {s = s} {follow = follow} {text = text} {p = p} resolves level is answers =
     refuses resolves.looks (subst (λ (r : Result ℕ Errno). IfErr r (λ e. IsTrue (is_path_refusal e))) is (own_at s.geometry.inodes p resolves.within))
     (λ disk settled v table stands volume mounted.

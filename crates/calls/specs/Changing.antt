@@ -2,7 +2,7 @@
 use Rattle.std.specs.Prelude.{ℕ, ◌≡◌, Option, Some, None, Result, Ok, Err}
 use Rattle.model.specs.declared.limits.Limits.{Limits}
 use Rattle.model.specs.Outcomes.{Outcome}
-use Rattle.model.specs.Records.{Change, Made, Applies, applied, create, file, directory, symbolic_link, link, remove_name, rename, truncate, change_mode, set_file, work_of}
+use Rattle.model.specs.Records.{Change, Edit, Made, Applies, applied, stamped, create, file, directory, symbolic_link, link, remove_name, rename, truncate, change_mode, set_file, work_of}
 use Rattle.model.specs.Room.{nothing, logs}
 use Rattle.model.specs.Trees.{Description}
 use Rattle.model.specs.Volumes.{Volume, IsMounted, swept, tree_of}
@@ -22,12 +22,12 @@ made_by (objects.File mode) = file mode
 made_by (objects.Directory mode) = directory mode
 made_by (objects.Link text) = symbolic_link text.bytes.items
 
--- what the record of a new object says
-abbrev pub creation_of : Creation → Change
+-- what the record of a new object does
+abbrev pub creation_of : Creation → Edit
 creation_of c = create c.number c.parent (made_by c.object) c.name.bytes.items
 
--- what a record says
-abbrev pub said_by : OwnedChange → Change
+-- what a record does
+abbrev pub said_by : OwnedChange → Edit
 said_by (owned.Create creation) = creation_of creation
 said_by (owned.Link number parent name) = link number parent name.bytes.items
 said_by (owned.RemoveName parent name) = remove_name parent name.bytes.items
@@ -35,6 +35,10 @@ said_by (owned.Rename parent name new_parent new_name) = rename parent name.byte
 said_by (owned.ChangeMode number mode) = change_mode number mode
 said_by (owned.Truncate number size) = truncate number size
 said_by (owned.SetFile number mode size) = set_file number mode size
+
+-- what a record says: what it does, and when
+abbrev pub change_by : Changing → Change
+change_by c = stamped c.time (said_by c.change)
 
 -- A call comes to what this record, which applies, does on the tree of a volume with these
 -- descriptors, and needs room for it. Behind it nothing is to be swept.
@@ -51,12 +55,12 @@ ComesSweptBy outcome limits v table change =
 -- what a call comes to: a refusal, or what its record does
 abbrev pub Comes : Outcome → Limits → Volume → (ℕ → Option Description) → Result Changing Errno → Type 0
 Comes outcome limits v table (Err errno) = outcome (Refused errno) (tree_of v table) nothing
-Comes outcome limits v table (Ok c) = ComesBy outcome limits v table (said_by c.change)
+Comes outcome limits v table (Ok c) = ComesBy outcome limits v table (change_by c)
 
 -- the same of a call that may leave a file to be dropped
 abbrev pub ComesSwept : Outcome → Limits → Volume → (ℕ → Option Description) → Result Changing Errno → Type 0
 ComesSwept outcome limits v table (Err errno) = outcome (Refused errno) (tree_of v table) nothing
-ComesSwept outcome limits v table (Ok c) = ComesSweptBy outcome limits v table (said_by c.change)
+ComesSwept outcome limits v table (Ok c) = ComesSweptBy outcome limits v table (change_by c)
 
 -- the same of a call that may find nothing to change
 abbrev pub ComesOrStays : Outcome → Limits → Volume → (ℕ → Option Description) → Result (Option Changing) Errno → Type 0
@@ -66,5 +70,5 @@ ComesOrStays outcome limits v table (Ok (Some c)) = ComesSwept outcome limits v 
 
 -- a call's record applies, and this is it; or this is the first obstacle to it
 abbrev pub Decides : Limits → Volume → Change → Result Changing Errno → Type 0
-Decides limits v change (Ok c) = (said_by c.change ≡ change) × Applies limits v change
+Decides limits v change (Ok c) = (change_by c ≡ change) × Applies limits v change
 Decides limits v change (Err errno) = IsObstacle limits v change errno

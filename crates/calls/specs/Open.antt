@@ -6,7 +6,7 @@ use Rattle.model.specs.Descriptors.{described_by, opens_new, opens_object}
 use Rattle.model.specs.Edits.{with_descriptor}
 use Rattle.model.specs.Outcomes.{Outcome, goes_along}
 use Rattle.model.specs.Paths.{Name}
-use Rattle.model.specs.Records.{Change, Applies, applied, create, file, work_of}
+use Rattle.model.specs.Records.{Change, Applies, applied, create, file, stamped, work_of}
 use Rattle.model.specs.Room.{Need, logs, nothing}
 use Rattle.model.specs.Trees.{Tree, Description}
 use Rattle.model.specs.Volumes.{IsMounted, Volume, file_node, swept, tree_of}
@@ -18,19 +18,20 @@ use Rattle.model.specs.declared.reply.FileType.TheVariants.{File}
 use Rattle.model.specs.declared.reply.Reply.{Reply}
 use Rattle.model.specs.declared.reply.Reply.TheVariants as replies
 use Rattle.model.specs.declared.reply.Stat.{Stat}
+use Rattle.model.specs.declared.time.Time.{Time}
 use Rattle.paths.specs.Numbers.{IsInodeNumber}
-use Rattle.calls.specs.Changing.{said_by}
+use Rattle.calls.specs.Changing.{change_by}
 use Rattle.calls.specs.Making.{MakesIn}
 use Rattle.calls.specs.declared.changed.Changing.{Changing}
 use Rattle.calls.specs.declared.preparing.open.Opened.{Opened}
 
 -- `open` behind its tests, at each descriptor, and `openstat`, which tells of the file too: the
 -- file that a path leads to, or a new one
-abbrev pub opens_along : Limits → Tree → List ℕ → Flags → ℕ → Bool → ℕ → Outcome
-opens_along limits t path flags mode tells fd =
+abbrev pub opens_along : Limits → Option Time → Tree → List ℕ → Flags → ℕ → Bool → ℕ → Outcome
+opens_along limits now t path flags mode tells fd =
     goes_along t (not (flags.creates && flags.exclusive)) path
-    (λ p o. opens_object tells t o flags fd)
-    (λ p name. opens_new tells limits t p name flags mode fd)
+    (λ p o. opens_object tells now t o flags fd)
+    (λ p name. opens_new tells limits now t p name flags mode fd)
 
 -- the number, the names, the mode and the size are those of a file of the volume
 abbrev pub IsOpened : Volume → Opened → Type 0
@@ -86,7 +87,7 @@ abbrev pub OpensOver : Opening → Limits → Flags → Volume → (ℕ → Opti
 OpensOver outcome limits flags v table o None =
     IsOpened v o × IsOpenedOver outcome flags o (tree_of v table) nothing
 OpensOver outcome limits flags v table o (Some c) =
-    OpensByRecord outcome limits flags v table o (said_by c.change)
+    OpensByRecord outcome limits flags v table o (change_by c)
 
 -- what opening a file comes to, at whatever descriptor: a refusal, or the file
 abbrev pub OpensAt : Opening → Limits → Flags → Volume → (ℕ → Option Description)
@@ -97,17 +98,18 @@ OpensAt outcome limits flags v table (Ok o) =
     OpensOver outcome limits flags v table o o.changing
 
 -- a file of this number is made, with this name
-abbrev pub OpensMade : Limits → Volume → ℕ → ℕ → Name → Opened → Option Changing → Type 0
-OpensMade limits v mode parent name o None = ⊥
-OpensMade limits v mode parent name o (Some c) =
-    MakesIn limits v parent name (file mode) (Ok c)
-    × (said_by c.change ≡ create o.number parent (file mode) name)
+abbrev pub OpensMade : Limits → Option Time → Volume → ℕ → ℕ → Name → Opened → Option Changing → Type 0
+OpensMade limits now v mode parent name o None = ⊥
+OpensMade limits now v mode parent name o (Some c) =
+    MakesIn limits now v parent name (file mode) (Ok c)
+    × (change_by c ≡ stamped now (create o.number parent (file mode) name))
     × (o.links ≡ 1) × (o.mode ≡ mode) × (o.size ≡ 0)
 
 -- what opening comes to at a name that a directory doesn't have
-abbrev pub OpensNew : Limits → Volume → Flags → ℕ → ℕ → Name → Result Opened Errno → Type 0
-OpensNew limits v flags mode parent name (Ok o) =
-    IsTrue flags.creates × OpensMade limits v mode parent name o o.changing
-OpensNew limits v flags mode parent name (Err errno) =
+abbrev pub OpensNew : Limits → Option Time → Volume → Flags → ℕ → ℕ → Name
+    → Result Opened Errno → Type 0
+OpensNew limits now v flags mode parent name (Ok o) =
+    IsTrue flags.creates × OpensMade limits now v mode parent name o o.changing
+OpensNew limits now v flags mode parent name (Err errno) =
     (IsFalse flags.creates × (errno ≡ ENOENT))
-    ⊎ (IsTrue flags.creates × MakesIn limits v parent name (file mode) (Err errno))
+    ⊎ (IsTrue flags.creates × MakesIn limits now v parent name (file mode) (Err errno))

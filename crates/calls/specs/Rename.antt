@@ -3,9 +3,10 @@ use Rattle.std.specs.Prelude.{ℕ, ◌≡◌, ◌≢◌, ◌↔◌, Bool, Contai
 use Rattle.model.specs.declared.limits.Limits.{Limits}
 use Rattle.model.specs.Finding.{here}
 use Rattle.model.specs.Paths.{IsName, Name, first_refusal, is_root_text, new_text_tests}
-use Rattle.model.specs.Records.{IsBelow, rename}
+use Rattle.model.specs.Records.{IsBelow, rename, stamped}
 use Rattle.model.specs.Volumes.{Volume, entries}
 use Rattle.model.specs.declared.errno.Errno.{Errno}
+use Rattle.model.specs.declared.time.Time.{Time}
 use Rattle.calls.specs.Changing.{Decides}
 use Rattle.calls.specs.declared.changed.Changing.{Changing}
 
@@ -27,8 +28,8 @@ pub record MovesAlong (v : Volume) (n : ℕ) (rooted : Bool) (trail : List ℕ) 
   pub other : entries v (here trail) y ≢ Some n
   pub tells : TellsBelow v n rooted trail
 
--- what comes of a name that an object moves to: its record decides
-abbrev pub MovesName : Limits → Volume → ℕ → Name → ℕ → Name → Result (Option Changing) Errno → Type 0
-MovesName limits v d x k y (Ok None) = ⊥
-MovesName limits v d x k y (Ok (Some c)) = Decides limits v (rename d x k y) (Ok c)
-MovesName limits v d x k y (Err errno) = Decides limits v (rename d x k y) (Err errno)
+-- what comes of a name that an object moves to at this time: its record decides
+abbrev pub MovesName : Limits → Option Time → Volume → ℕ → Name → ℕ → Name → Result (Option Changing) Errno → Type 0
+MovesName limits now v d x k y (Ok None) = ⊥
+MovesName limits now v d x k y (Ok (Some c)) = Decides limits v (stamped now (rename d x k y)) (Ok c)
+MovesName limits now v d x k y (Err errno) = Decides limits v (stamped now (rename d x k y)) (Err errno)

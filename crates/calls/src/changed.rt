@@ -1,12 +1,13 @@
 //! What a call is to change.
 
-ghost use Rattle.std.specs.Prelude.{ℕ, ◌≡◌, ◌≤◌, IfNone, IfSome, length};
-ghost use Rattle.layout.specs.Record.{body_of, change_of, IsChange, KeepsLimits};
+ghost use Rattle.std.specs.Prelude.{ℕ, ◌≡◌, ◌≤◌, Bool, IfNone, IfSome, length};
+ghost use Rattle.layout.specs.Record.{body_of, change_of, edit_bytes, edit_of, FitsEditFields, FitsTime, IsChange, KeepsEditLimits, KeepsLimits};
 ghost use Rattle.model.specs.Paths.{IsName};
+ghost use Rattle.model.specs.Records.{stamped};
 
 use crate::Creation;
-use layout::{InodeNumber, Record, is_name};
-use model::Mode;
+use layout::{Edit, InodeNumber, Record, is_name};
+use model::{Mode, Time};
 use records::Prepared;
 
 /// A name that a directory has, or may have.
@@ -75,6 +76,8 @@ pub enum OwnedChange {
 /// What a call is to change: what its record says, and its prepared change.
 #[derive(Drop)]
 pub struct Changing {
+    /// When it changes, where the file system keeps times.
+    pub time: Option<Time>,
     pub change: OwnedChange,
     pub prepared: Prepared,
 }
@@ -94,23 +97,35 @@ impl OwnedChange {
         }
     }
 
-    /// The record, as the log takes it.
-    pub fn record(&self) -> Record<'_>
-        ensures says { change_of result ≡ said_by self.now }
+    /// The record of this at a time, as the log takes it.
+    pub fn record(&self, time: Option<Time>) -> Record<'_>
+        ensures says { change_of result ≡ stamped time (said_by self.now) }
         ensures limits { KeepsLimits (change_of result) }
-        ensures is { IsChange (change_of result) }
-        ensures short { length (body_of result) ≤ 1300 }
+        ensures is { (has_attributes : Bool) → FitsTime has_attributes time
+            → IsChange has_attributes (change_of result) }
+        ensures short { length (body_of result) ≤ 1312 }
+    {
+        let edit = self.edit();
+        Record { time, edit }
+    }
+
+    // What the record does.
+    fn edit(&self) -> Edit<'_>
+        ensures says { edit_of result ≡ said_by self.now }
+        ensures limits { KeepsEditLimits (edit_of result) }
+        ensures fits { FitsEditFields (edit_of result) }
+        ensures short { length (edit_bytes (edit_of result)) ≤ 1299 }
     {
         // Each of these types holds its values to what their fields have room for.
         match self {
-            OwnedChange::Create { creation } => creation.record(),
+            OwnedChange::Create { creation } => creation.edit(),
             OwnedChange::Link {
                 number,
                 parent,
                 name,
             } => {
                 let _ = (number.get(), parent.get());
-                Record::Link {
+                Edit::Link {
                     number: *number,
                     parent: *parent,
                     name: &name.bytes,
@@ -118,7 +133,7 @@ impl OwnedChange {
             }
             OwnedChange::RemoveName { parent, name } => {
                 let _ = parent.get();
-                Record::RemoveName {
+                Edit::RemoveName {
                     parent: *parent,
                     name: &name.bytes,
                 }
@@ -130,7 +145,7 @@ impl OwnedChange {
                 new_name,
             } => {
                 let _ = (parent.get(), new_parent.get());
-                Record::Rename {
+                Edit::Rename {
                     parent: *parent,
                     name: &name.bytes,
                     new_parent: *new_parent,
@@ -139,21 +154,21 @@ impl OwnedChange {
             }
             OwnedChange::ChangeMode { number, mode } => {
                 let _ = (number.get(), mode.bits());
-                Record::ChangeMode {
+                Edit::ChangeMode {
                     number: *number,
                     mode: *mode,
                 }
             }
             OwnedChange::Truncate { number, size } => {
                 let _ = (number.get(), *size);
-                Record::Truncate {
+                Edit::Truncate {
                     number: *number,
                     size: *size,
                 }
             }
             OwnedChange::SetFile { number, mode, size } => {
                 let _ = (number.get(), mode.bits(), *size);
-                Record::SetFile {
+                Edit::SetFile {
                     number: *number,
                     mode: *mode,
                     size: *size,

@@ -21,7 +21,7 @@ pub use preparing::mkdir::make_directory;
 pub use preparing::open::{Opened, open_along};
 pub use preparing::rename::rename;
 pub use preparing::rmdir::remove_directory;
-pub use preparing::set::set;
+pub use preparing::set::{set, set_mode};
 pub use preparing::store::{Storing, store};
 pub use preparing::symlink::symlink;
 pub use preparing::truncate::{refusal_of_size, truncate, truncate_file};

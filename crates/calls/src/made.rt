@@ -5,7 +5,7 @@ ghost use Rattle.layout.specs.declared.limits.TheConstants.{PATH_BYTES};
 ghost use Rattle.model.specs.Paths.{IsLinkText};
 
 use crate::EntryName;
-use layout::{InodeNumber, NewObject, Record, is_link_text};
+use layout::{Edit, InodeNumber, NewObject, is_link_text};
 use model::Mode;
 
 /// The text of a symbolic link.
@@ -79,20 +79,20 @@ pub struct Creation {
 
 impl Creation {
     ghost use Rattle.std.specs.Prelude.{◌≡◌, ◌≤◌, length};
-    ghost use Rattle.layout.specs.Record.{body_of, change_of, IsChange, KeepsLimits};
+    ghost use Rattle.layout.specs.Record.{edit_bytes, edit_of, FitsEditFields, KeepsEditLimits};
     ghost use Rattle.calls.specs.Changing.{creation_of};
 
-    /// The record, as the log takes it.
-    pub fn record(&self) -> Record<'_>
-        ensures says { change_of result ≡ creation_of self.now }
-        ensures limits { KeepsLimits (change_of result) }
-        ensures is { IsChange (change_of result) }
-        ensures short { length (body_of result) ≤ 1300 }
+    /// What the record does, as the log takes it.
+    pub(crate) fn edit(&self) -> Edit<'_>
+        ensures says { edit_of result ≡ creation_of self.now }
+        ensures limits { KeepsEditLimits (edit_of result) }
+        ensures fits { FitsEditFields (edit_of result) }
+        ensures short { length (edit_bytes (edit_of result)) ≤ 1299 }
     {
         // Each of these types holds its values to what their fields have room for.
         let _ = (self.number.get(), self.parent.get());
         let object = self.object.as_new();
-        Record::Create {
+        Edit::Create {
             number: self.number,
             parent: self.parent,
             object,

@@ -1,6 +1,8 @@
 //! Making an object over a path.
 
 ghost use Rattle.std.specs.Prelude.{◌≡◌, IfOk};
+ghost use Rattle.layout.specs.StateLimits.{limits_of};
+ghost use Rattle.model.specs.Attributes.{KeepsTime};
 ghost use Rattle.model.specs.Changing.{creates};
 ghost use Rattle.model.specs.Changes.{with_made};
 ghost use Rattle.model.specs.Records.{Made};
@@ -15,7 +17,7 @@ use buffers::{BlockError, Blocks};
 use inode::Object;
 use inofile::InodeFile;
 use layout::{FIRST_NUMBER, InodeNumber};
-use model::{Errno, records_change_trees, volumes_are_trees, volumes_tell_fresh_numbers};
+use model::{Errno, Time, records_change_trees, volumes_are_trees, volumes_tell_fresh_numbers};
 use paths::{Parts, Place, resolve_place};
 use records::{Failure, is_vacant, new_object, prepare_new};
 use std::alloc::Global;
@@ -27,11 +29,13 @@ pub(crate) fn make<B: Blocks>(
     alloc: Global,
     inodes: &mut InodeFile,
     blocks: &mut B,
+    now: Option<Time>,
     path: &[u8],
     object: OwnedObject,
 ) -> Result<Changing, Failure>
-    ensures { Prepares B.Blocks blocks.old blocks.new inodes.old inodes.new
-        (λ limits v table. Comes (creates limits (tree_of v table) path.now (with_made (made_by
+    requires now { KeepsTime (limits_of inodes.old.geometry).has_attributes now }
+    ensures { Prepares now B.Blocks blocks.old blocks.new inodes.old inodes.new
+        (λ limits v table. Comes (creates limits now (tree_of v table) path.now (with_made (made_by
         object))) limits v table) result }
 {
     volumes_are_trees();
@@ -52,7 +56,7 @@ pub(crate) fn make<B: Blocks>(
             number: _number,
         } => return Err(Failure::Refused(Errno::EEXIST)),
     };
-    make_in(alloc, inodes, blocks, trail.here(), name, object)
+    make_in(alloc, inodes, blocks, now, trail.here(), name, object)
 }
 
 /// Makes an object at a name that its parent doesn't have.
@@ -60,18 +64,20 @@ pub(crate) fn make_in<B: Blocks>(
     alloc: Global,
     inodes: &mut InodeFile,
     blocks: &mut B,
+    now: Option<Time>,
     parent: InodeNumber,
     name: Vec<u8>,
     object: OwnedObject,
 ) -> Result<Changing, Failure>
+    requires now { KeepsTime (limits_of inodes.old.geometry).has_attributes now }
     ensures creates { IfOk result (λ c. CreatesObject inodes.old.geometry.inodes c.change) }
-    ensures prepares { Prepares B.Blocks blocks.old blocks.new inodes.old inodes.new
-        (λ limits v table. MakesIn limits v parent name.items (made_by object)) result }
+    ensures prepares { Prepares now B.Blocks blocks.old blocks.new inodes.old inodes.new
+        (λ limits v table. MakesIn limits now v parent name.items (made_by object)) result }
 {
     let layout = inodes.geometry().layout();
     let new = new_object(alloc, layout, blocks, &object.as_new())?;
     let Some(free) = inodes.least_free() else {
-        return refuse_in(alloc, inodes, blocks, parent, name.as_slice(), new);
+        return refuse_in(alloc, inodes, blocks, now, parent, name.as_slice(), new);
     };
     let number = InodeNumber::new(free);
     let vacant = is_vacant(alloc, inodes, blocks, number)?;
@@ -81,7 +87,8 @@ pub(crate) fn make_in<B: Blocks>(
     let Some(name) = EntryName::new(name) else {
         return Err(Failure::Refused(Errno::DIRFULL));
     };
-    let prepared = prepare_new(alloc, inodes, blocks, number, parent, &name.bytes, new)?;
+    let time = now;
+    let prepared = prepare_new(alloc, inodes, blocks, now, number, parent, &name.bytes, new)?;
     note_made(inodes, &object, number, parent, &name.bytes);
     let creation = Creation {
         number,
@@ -90,6 +97,7 @@ pub(crate) fn make_in<B: Blocks>(
         name,
     };
     Ok(Changing {
+        time,
         change: OwnedChange::Create { creation },
         prepared,
     })
@@ -116,18 +124,20 @@ fn refuse_in<B: Blocks>(
     alloc: Global,
     inodes: &mut InodeFile,
     blocks: &mut B,
+    now: Option<Time>,
     parent: InodeNumber,
     name: &[u8],
     new: Object,
 ) -> Result<Changing, Failure>
+    requires now { KeepsTime (limits_of inodes.old.geometry).has_attributes now }
     ensures creates { IfOk result (λ c. CreatesObject inodes.old.geometry.inodes c.change) }
-    ensures prepares { Prepares B.Blocks blocks.old blocks.new inodes.old inodes.new
-        (λ limits v table r. (made : Made) → HasNoNumber limits.inodes v → MakesIn limits v parent
-        name.now made r) result }
+    ensures prepares { Prepares now B.Blocks blocks.old blocks.new inodes.old inodes.new
+        (λ limits v table r. (made : Made) → HasNoNumber limits.inodes v → MakesIn limits now v
+        parent name.now made r) result }
 {
     // An image has more inode numbers than the first.
     let _ = inodes.geometry().inodes();
     let number = InodeNumber::new(FIRST_NUMBER);
-    let _prepared = prepare_new(alloc, inodes, blocks, number, parent, name, new)?;
+    let _prepared = prepare_new(alloc, inodes, blocks, now, number, parent, name, new)?;
     Err(Failure::Refused(Errno::NONUMBER))
 }

@@ -3,7 +3,7 @@ use Rattle.std.proofs.Common.{◌≡◌, ◌⊎◌, ◌∙◌, ◌<◌, ◌≤�
 use Rattle.std.specs.Prelude.{All, IfErr, IsSome, MatchResult}
 use Rattle.std.specs.Result.{IsErrAnd}
 use Rattle.std.proofs.lemmas.List.Elements.{All-cons, All-head, All-tail}
-use Rattle.layout.specs.StateLimits.{limits_of, costs_of}
+use Rattle.layout.specs.StateLimits.{limits_of}
 use Rattle.buffers.specs.declared.error.BlockError.{BlockError}
 use Rattle.buffers.specs.declared.error.BlockError.TheVariants as errors
 use Rattle.layout.specs.Limits.{Sizes}
@@ -41,10 +41,10 @@ use Rattle.checker.specs.declared.fault.TreeName.TheVariants.{Image}
 use Rattle.checker.specs.declared.log.Logged.{Logged}
 
 -- a record in front of others that lead on
-pub in_front : (limits : Limits) (rest body after : List ℕ) (change : Change) (more : List Change) (now w : Volume) → length body < 2 ^ 32 → rest ≡ record_of body ++ after → SpellsRecord body change
+pub in_front : (limits : Limits) (rest body after : List ℕ) (change : Change) (more : List Change) (now w : Volume) → length body < 2 ^ 32 → rest ≡ record_of body ++ after → SpellsRecord limits.has_attributes body change
     → AppliesIn by_sizes limits now change → LeadTo by_sizes limits after more (applied change now) w → LeadTo by_sizes limits rest (change ∷ more) now w
 in_front limits rest body after change more now w short is spells applies leads = record {
-  are = All-cons IsChange change more spells.is leads.are;
+  are = All-cons (IsChange limits.has_attributes) change more spells.is leads.are;
   held = (after, subst (λ (b : List ℕ). length b < 2 ^ 32) spells.spelled short, is ∙ ap (λ (b : List ℕ). record_of b ++ after) spells.spelled, leads.held);
   replays = (applies, leads.replays);
 }
@@ -64,9 +64,9 @@ within_more limits [] (c ∷ two) v mid w first second =
     (on.0, within_more limits [] two (applied c v) (applied c v) w refl on.1)
 within_more limits (c ∷ one) two v mid w first second = (first.0, within_more limits one two (applied c v) mid w first.1 second)
 
-all_more : (one two : List Change) → All IsChange one → All IsChange two → All IsChange (one ++ two)
-all_more [] two first second = second
-all_more (c ∷ one) two first second = All-cons IsChange c (one ++ two) (All-head IsChange c one first) (all_more one two (All-tail IsChange c one first) second)
+all_more : (P : Change → Type 0) (one two : List Change) → All P one → All P two → All P (one ++ two)
+all_more P [] two first second = second
+all_more P (c ∷ one) two first second = All-cons P c (one ++ two) (All-head P c one first) (all_more P one two (All-tail P c one first) second)
 
 -- what was saved, over a root
 module _ (r : Root) (w : Whole) (nvram : List ℕ) (saved : Saved) (half : saved.half ≡ r.geometry.half) (generation : saved.generation ≡ r.generation) (tells : TellsLog nvram saved)
@@ -83,7 +83,7 @@ module _ (r : Root) (w : Whole) (nvram : List ℕ) (saved : Saved) (half : saved
           last = last;
           holds = holds;
           log = record {
-            are = all_more one two leads.are leads_on.are;
+            are = all_more (IsChange (limits_of r.geometry).has_attributes) one two leads.are leads_on.are;
             log = subst (λ (n : ℕ). LogHolds n r.generation nvram (bodies_of (one ++ two))) (end_half saved first.0 second.0 ∙ half)
                 (subst (λ (n : ℕ). LogHolds (end_of saved first.0 second.0).half n nvram (bodies_of (one ++ two))) generation
                 (subst (LogHolds (end_of saved first.0 second.0).half saved.generation nvram) all stands.stands.holds));
@@ -99,12 +99,12 @@ module _ (r : Root) (w : Whole) (nvram : List ℕ) (saved : Saved) (half : saved
       → LeadTo by_sizes (limits_of r.geometry) saved.second.records two mid last
       → orphans ≡ count_orphans r.geometry.inodes v
       → a.records ≡ length one → b.records ≡ length two
-      → a.pledged ≡ cost_of_all (costs_of r.geometry.blocks) v one → b.pledged ≡ cost_of_all (costs_of r.geometry.blocks) mid two
+      → a.pledged ≡ cost_of_all (limits_of r.geometry).costs v one → b.pledged ≡ cost_of_all (limits_of r.geometry).costs mid two
       → l.records ≡ a.records + b.records → l.pledged ≡ 4 * orphans + a.pledged + b.pledged
       → IsLogged r w nvram l
   is_logged one two mid last orphans l a b leads leads_on counted few more cost other records pledged =
       let has = has_log one two mid last leads leads_on in
-      let all = costs_joined by_sizes (limits_of r.geometry) (costs_of r.geometry.blocks) one two v mid leads.replays in record {
+      let all = costs_joined by_sizes (limits_of r.geometry) (limits_of r.geometry).costs one two v mid leads.replays in record {
         changes = one ++ two;
         log = has.0;
         records_are = omega (arith, records, few, more, length-append one two);

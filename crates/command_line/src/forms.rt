@@ -25,7 +25,7 @@ const CALLS: [&str; 17] = [
 ];
 
 /// The other commands, but `in`, which stands before a call.
-const OTHERS: [&str; 19] = [
+const OTHERS: [&str; 20] = [
     "open PATH FLAGS [MODE]",
     "openstat PATH FLAGS [MODE]",
     "close FD",
@@ -35,6 +35,7 @@ const OTHERS: [&str; 19] = [
     "pwrite FD OFFSET DATA",
     "lseek FD FROM OFFSET",
     "ftruncate FD SIZE",
+    "fchmod FD MODE",
     "fstat FD",
     "fsync FD",
     "extent PATH OFFSET",

@@ -58,6 +58,7 @@ pub const COMMAND_NOTES: &str = "Commands, one a line, with an example of each:
   pwrite FD OFFSET DATA       puts bytes at another place: pwrite 0 4 64
   lseek FD FROM OFFSET        moves the offset: lseek 0 set 1
   ftruncate FD SIZE           gives an open file another size: ftruncate 0 2
+  fchmod FD MODE              changes the mode of an open file: fchmod 0 0640
   fstat FD                    what stat tells, of an open file: fstat 0
   fsync FD                    answered once all that was done is kept, as each command is: fsync 0
   extent PATH OFFSET          counts a file's stored blocks, finds data and a hole: extent /f 0

@@ -6,6 +6,7 @@ use Rattle.layout.specs.StateLimits.{limits_of}
 use Rattle.model.specs.Reading.{gets, tells_entries}
 use Rattle.model.specs.Outcomes.{Outcome}
 use Rattle.model.specs.Room.{nothing}
+use Rattle.model.specs.States.{time_under}
 use Rattle.model.specs.Steps.{calls}
 use Rattle.model.specs.Trees.{Tree}
 use Rattle.model.specs.Volumes.{Volume, tree_of}
@@ -39,24 +40,24 @@ entries_behind {G = G} {a = a} {b = b} {s = s} {t = t} {reply = reply} {r = r} p
 
 module _ {B T : Type 0} {G : Ghosts B} {a b : B} {s t : InodeFile} {reply : Result T Errno → Reply} (call words : PathCall) (is : call ≡ words) where
   -- it is answered
-  pub gives : {x : T} → Answers G a b s t (λ limits u. calls limits u words) reply (Ok x) → Answers G a b s t (asks call) answered_reply (Ok (reply (Ok x)))
+  pub gives : {x : T} → Answers G a b s t (asks words) reply (Ok x) → Answers G a b s t (asks call) answered_reply (Ok (reply (Ok x)))
   gives {x} all = record {
     looks = looks_ok all.looks;
     own = tt;
     answers = λ disk settled v table stands volume.
-        subst (λ (k : PathCall). calls (limits_of s.geometry) (tree_of v table) k (reply (Ok x)) (tree_of v table) nothing) (sym is) (all.answers disk settled v table stands volume);
+        subst (λ (k : PathCall). calls (limits_of s.geometry) (time_under (limits_of s.geometry)) (tree_of v table) k (reply (Ok x)) (tree_of v table) nothing) (sym is) (all.answers disk settled v table stands volume);
     damaged = λ disk settled v stands bad. cc;
   }
 
   -- it isn't
   pub fails : (f : Failure) (q : Result Reply Failure) → IsErrAnd q (λ g. g ≡ f) → ((errno : Errno) → reply (Err errno) ≡ replies.Refused errno)
-      → Answers G a b s t (λ limits u. calls limits u words) reply (Err f) → Answers G a b s t (asks call) answered_reply q
+      → Answers G a b s t (asks words) reply (Err f) → Answers G a b s t (asks call) answered_reply q
   fails (Refused errno) q so same all = carried (Answers G a b s t (asks call) answered_reply) q so (record {
     looks = looks_ok all.looks;
     own = all.own;
     answers = λ disk settled v table stands volume.
-        let here = subst (λ (r : Reply). calls (limits_of s.geometry) (tree_of v table) words r (tree_of v table) nothing) (same errno) (all.answers disk settled v table stands volume) in
-        subst (λ (k : PathCall). calls (limits_of s.geometry) (tree_of v table) k (replies.Refused errno) (tree_of v table) nothing) (sym is) here;
+        let here = subst (λ (r : Reply). calls (limits_of s.geometry) (time_under (limits_of s.geometry)) (tree_of v table) words r (tree_of v table) nothing) (same errno) (all.answers disk settled v table stands volume) in
+        subst (λ (k : PathCall). calls (limits_of s.geometry) (time_under (limits_of s.geometry)) (tree_of v table) k (replies.Refused errno) (tree_of v table) nothing) (sym is) here;
     damaged = λ disk settled v stands bad. cc;
   })
   fails (Read e) q so same all = carried (Answers G a b s t (asks call) answered_reply) q so (record {

@@ -19,7 +19,7 @@ use Rattle.oplog.specs.declared.log.End.{End}
 use Rattle.oplog.specs.declared.log.End.TheVariants.{At, Unopened}
 use Rattle.system.specs.Counting.{Counted, Failed, LogsNothing, a_read, a_write, beside_reads, no_call, perhaps_any, perhaps_reads}
 use Rattle.system.specs.Images.{OpensTo}
-use Rattle.dispatch.specs.Preparing.{IsPreparedAt, PreparesOn, recorded}
+use Rattle.dispatch.specs.Preparing.{IsPreparedAt, PreparesOn, logged_by}
 use Rattle.system.specs.Serving.{HasEmptyLog, IsPlanDue, ServesState}
 use Rattle.dispatch.specs.Serving.{WouldChange}
 use Rattle.system.specs.Slicing.{StaysReady, Steps}
@@ -196,7 +196,7 @@ module _ {S : Type 0} {G : Ghosts S} {old mid : System S G} {call : Command} {p 
         let there : IsPreparedAt (system_parts mid) (blocks_of (disk_of new)) next.rest.serves.running call p =
         subst (λ (w : Volume). IsPreparedAt (system_parts mid) (blocks_of (disk_of new)) w call p) (sym next.volume)
         (subst (λ (d : ℕ → List ℕ). IsPreparedAt (system_parts mid) d serves.running call p) disk here) in
-        subst Now (sym ready.parts) (record { does = there.does; comes = there.comes });
+        subst Now (sym ready.parts) (record { timed = there.timed; does = there.does; comes = there.comes });
   }
 
   -- and it is prepared behind what came before
@@ -213,11 +213,11 @@ module _ {S : Type 0} {G : Ghosts S} {old mid : System S G} {call : Command} {p 
       changes : (o : Option PreparedChange) → p.change ≡ o → WouldChange s call
       changes None none = absurd (some none)
       changes (Some c) is =
-          let logged = told_logged (served_shows (prepared.before.rest s served).serves) call p c (recorded c.record) is refl (prepared.at s served) in
+          let logged = told_logged (served_shows (prepared.before.rest s served).serves) call p c (logged_by c) is refl (prepared.at s served) in
           record {
             reply = p.reply;
             after = _;
-            need = λ room. logs (work_of (prepared.before.rest s served).serves.running (recorded c.record));
+            need = λ room. logs (work_of (prepared.before.rest s served).serves.running (logged_by c));
             step = logged.step;
             needs = λ room none. cc;
           }

@@ -1,6 +1,6 @@
 -- What a call is to do, from what is prepared for it.
 use Rattle.std.proofs.Common.{◌≡◌, ℕ, ℤ, Bool, false, true, List, Option, Some, None, Result, Ok, Err, refl, sym, subst}
-use Rattle.std.specs.Prelude.{IfSome, IsFalse}
+use Rattle.std.specs.Prelude.{IfOk, IfSome, IsFalse}
 use Rattle.std.specs.Result.{IsErrAnd}
 use Rattle.std.proofs.Math.Path.{fun_ext}
 use Rattle.model.specs.declared.limits.Limits.{Limits}
@@ -11,6 +11,7 @@ use Rattle.model.specs.Outcomes.{Outcome}
 use Rattle.model.specs.Records.{applied, work_of}
 use Rattle.model.specs.Replies.{IsReplyTo}
 use Rattle.model.specs.Room.{Need, logs, nothing}
+use Rattle.model.specs.States.{time_under}
 use Rattle.model.specs.Steps.{calls, is_reading_call}
 use Rattle.model.specs.Trees.{Description}
 use Rattle.model.specs.Volumes.{IsMounted, Volume, swept, tree_of}
@@ -21,6 +22,7 @@ use Rattle.model.specs.declared.command.PathCall.{PathCall}
 use Rattle.model.specs.declared.errno.Errno.{Errno}
 use Rattle.model.specs.declared.reply.Reply.{Reply}
 use Rattle.model.specs.declared.reply.Reply.TheVariants.{Done, Refused}
+use Rattle.model.specs.declared.time.Time.{Time}
 use Rattle.buffers.specs.declared.blocks.Blocks.{Ghosts}
 use Rattle.inofile.specs.declared.inode_file.InodeFile.{InodeFile}
 use Rattle.records.specs.Prepared.{Does, IsReady}
@@ -28,7 +30,7 @@ use Rattle.records.specs.Rewriting.{GoesOver}
 use Rattle.records.specs.declared.prepared.Prepared.{Prepared}
 use Rattle.records.specs.declared.failure.Failure.{Failure}
 use Rattle.records.specs.declared.failure.Failure.TheVariants as failures
-use Rattle.calls.specs.Changing.{ComesOrStays, said_by}
+use Rattle.calls.specs.Changing.{ComesOrStays, change_by}
 use Rattle.calls.specs.Preparing.{Answer, PreparesAny}
 use Rattle.calls.specs.Store.{IsTransfer, PreparesStoring, StoresFile, change_of_store}
 use Rattle.calls.specs.declared.preparing.store.Storing.{Storing}
@@ -45,7 +47,7 @@ use Rattle.files.specs.declared.written.Writing.{Writing}
 use Rattle.files.proofs.Preparing.{grants, refuses, stops}
 use Rattle.dispatch.specs.Changing.{CallComes, is_writing_call}
 use Rattle.dispatch.specs.OpenFiles.{FitsMove, WouldLead, moved_table}
-use Rattle.dispatch.specs.Preparing.{DoesBeside, DoesCall, KeepsRecord, MayDo, PreparesCall, of_prepared, opening_call, recorded, said_change}
+use Rattle.dispatch.specs.Preparing.{DoesBeside, DoesCall, KeepsRecord, MayDo, PreparesCall, logged_by, of_prepared, opening_call, said_change}
 use Rattle.dispatch.specs.Serving.{IsAccepted}
 use Rattle.dispatch.specs.declared.prepared_call.PreparedCall.{PreparedCall}
 use Rattle.dispatch.specs.declared.prepared_call.PreparedChange.{PreparedChange}
@@ -55,34 +57,34 @@ use Rattle.dispatch.proofs.ServingLaws.{done_is_reply}
 
 -- a record that applies and needs no sweep
 pub goes_beside : (limits : Limits) (v : Volume) (table : ℕ → Option Description) (call : Command) (reply : Reply) (move : TableMove) (c : PreparedChange)
-    → GoesOver limits v table (recorded c.record) → ((w : Volume) → FitsMove w move)
-    → WouldLead limits v table call reply (applied (recorded c.record) v) (moved_table move table) (logs (work_of v (recorded c.record))) → DoesBeside limits v table call reply move (Some c)
+    → GoesOver limits v table (logged_by c) → ((w : Volume) → FitsMove w move)
+    → WouldLead limits v table call reply (applied (logged_by c) v) (moved_table move table) (logs (work_of v (logged_by c))) → DoesBeside limits v table call reply move (Some c)
 goes_beside limits v table call reply move c goes fits told =
-    let w = applied (recorded c.record) v in
+    let w = applied (logged_by c) v in
     let same : w ≡ swept table w = sym (fun_ext {f = swept table w} {g = w} goes.1.is_swept) in (
       goes.0,
       subst (λ (x : Volume). IsMounted x table) same goes.1,
       fits (swept table w),
-      subst (λ (x : Volume). WouldLead limits v table call reply x (moved_table move table) (logs (work_of v (recorded c.record)))) same told,
+      subst (λ (x : Volume). WouldLead limits v table call reply x (moved_table move table) (logs (work_of v (logged_by c)))) same told,
     )
 
 module _ {B T : Type 0} {changes : Changes T} {W : T → Type 0} {G : Ghosts B} {a b : B} {s t : InodeFile} {files : Descriptors} {answer : Volume → Result T Errno → Type 0} (call : Command) where
   -- it isn't refused
-  pub does : {x : T} {d : PreparedCall} → PreparesOpen changes W G a b s t files answer (Ok x) → (W x → MayDo s.geometry.inodes files call d)
+  pub does : {now : Option Time} {x : T} {d : PreparedCall} → now ≡ time_under (limits_of s.geometry) → PreparesOpen changes W now G a b s t files answer (Ok x) → (W x → MayDo s.geometry.inodes files call d)
       → ((P : Prepared → Change → Type 0) → changes x P → of_prepared d P) → ((v : Volume) → answer v (Ok x) → DoesCall (limits_of s.geometry) v (table_of files) call (Ok d))
       → PreparesCall G a b s t files call (Ok d)
-  does told may changed leads =
-      grants told.looks (may told.within) (changed (λ p change. IsReady t p) told.ready) (λ disk settled v stands. changed (λ p change. Does disk settled t v p change) (told.does disk settled v stands))
+  does {x = x} is told may changed leads =
+      grants told.looks (may told.within) (changed (λ p change. IsReady t p) told.ready) (changed (λ p change. change.time ≡ time_under (limits_of s.geometry)) (subst (λ (n : Option Time). changes x (λ p change. change.time ≡ n)) is told.timed)) (λ disk settled v stands. changed (λ p change. Does disk settled t v p change) (told.does disk settled v stands))
       (λ disk settled v stands volume mounted fits. leads v (told.answers disk settled v stands volume mounted fits))
 
 -- what a write at an offset comes to
-pub writes_at : (limits : Limits) (v : Volume) (files : Descriptors) (fd : ℕ) (bytes : List ℕ) (r : Result (Option Writing) Errno) {offset place : ℤ} → offset ≡ place
-    → WritesFile (writes_to limits (tree_with files v) fd offset bytes) limits v files bytes (λ w. table_of files) r → WritesFile (writes_to limits (tree_with files v) fd place bytes) limits v files bytes (λ w. table_of files) r
-writes_at limits v files fd bytes r is told = subst (λ (z : ℤ). WritesFile (writes_to limits (tree_with files v) fd z bytes) limits v files bytes (λ w. table_of files) r) is told
+pub writes_at : (limits : Limits) (now : Option Time) (v : Volume) (files : Descriptors) (fd : ℕ) (bytes : List ℕ) (r : Result (Option Writing) Errno) {offset place : ℤ} → offset ≡ place
+    → WritesFile (writes_to limits now (tree_with files v) fd offset bytes) limits now v files bytes (λ w. table_of files) r → WritesFile (writes_to limits now (tree_with files v) fd place bytes) limits now v files bytes (λ w. table_of files) r
+writes_at limits now v files fd bytes r is told = subst (λ (z : ℤ). WritesFile (writes_to limits now (tree_with files v) fd z bytes) limits now v files bytes (λ w. table_of files) r) is told
 
 -- ---- a change whose record says what it does
 
-pub said_so : (o : Option Changing) (P : Prepared → Change → Type 0) → IfSome o (λ c. P c.prepared (said_by c.change)) → IfSome (said_change o) (λ c. P c.prepared (recorded c.record))
+pub said_so : (o : Option Changing) (P : Prepared → Change → Type 0) → IfSome o (λ c. P c.prepared (change_by c)) → IfSome (said_change o) (λ c. P c.prepared (logged_by c))
 said_so None P is = tt
 said_so (Some c) P is = is
 
@@ -96,14 +98,14 @@ pub comes_so : (limits : Limits) (v : Volume) (table : ℕ → Option Descriptio
     → ComesOrStays outcome limits v table (Ok o) → DoesBeside limits v table call Done Stays (said_change o)
 comes_so limits v table call outcome None leads told = (tt, leads Done v nothing told)
 comes_so limits v table call outcome (Some c) leads told =
-    (told.0, told.1, tt, leads Done (swept table (applied (said_by c.change) v)) (logs (work_of v (said_by c.change))) told.2)
+    (told.0, told.1, tt, leads Done (swept table (applied (change_by c) v)) (logs (work_of v (change_by c))) told.2)
 
 -- ---- a file that is opened
 
 module _ (path : List ℕ) (flags : Flags) (mode below : ℕ) where
   -- what `open` and `openstat` come to is what they lead to
   pub opens_leads : (limits : Limits) (v : Volume) (table : ℕ → Option Description) (tells : Bool) (reply : Reply) (w : Volume) (after : ℕ → Option Description) (need : Need)
-      → opens tells below limits (tree_of v table) path flags mode reply (tree_of w after) need → WouldLead limits v table (opening_call tells path flags mode below) reply w after need
+      → opens tells below limits (time_under limits) (tree_of v table) path flags mode reply (tree_of w after) need → WouldLead limits v table (opening_call tells path flags mode below) reply w after need
   opens_leads limits v table false reply w after need told snapshots room = (told, refl)
   opens_leads limits v table true reply w after need told snapshots room = (told, refl)
 
@@ -112,15 +114,15 @@ module _ (path : List ℕ) (flags : Flags) (mode below : ℕ) where
   opening_kind true o = tt
 
   pub opens_so : (limits : Limits) (v : Volume) (files : Descriptors) (tells : Bool) (o : Opening) (c : Option Changing)
-      → OpensDescriptorOver (λ t. opens t below limits (tree_with files v) path flags mode) limits v files o c
+      → OpensDescriptorOver (λ t. opens t below limits (time_under limits) (tree_with files v) path flags mode) limits v files o c
       → DoesBeside limits v (table_of files) (opening_call tells path flags mode below) (opening_reply tells o) (Opens o.fd o.file) (said_change c)
   opens_so limits v files tells o None told = (told.0, opens_leads limits v (table_of files) tells (opening_reply tells o) v (with_opened o files) nothing (told.1 tells))
   opens_so limits v files tells o (Some c) told =
-      let w = swept (table_of files) (applied (said_by c.change) v) in (
+      let w = swept (table_of files) (applied (change_by c) v) in (
         told.0,
         told.1,
         told.2,
-        opens_leads limits v (table_of files) tells (opening_reply tells o) w (with_opened o files) (logs (work_of v (said_by c.change))) (told.3 tells),
+        opens_leads limits v (table_of files) tells (opening_reply tells o) w (with_opened o files) (logs (work_of v (change_by c))) (told.3 tells),
       )
 
 pub opening_accepted : (tells : Bool) (o : Opening) → IsAccepted (opening_reply tells o)
@@ -129,50 +131,59 @@ opening_accepted true o errno is = cc
 
 -- ---- a call by a path
 
-pub path_leads : (call : PathCall) (limits : Limits) (v : Volume) (table : ℕ → Option Description) (reply : Reply) (w : Volume) (need : Need) → calls limits (tree_of v table) call reply (tree_of w table) need
+pub path_leads : (call : PathCall) (limits : Limits) (v : Volume) (table : ℕ → Option Description) (reply : Reply) (w : Volume) (need : Need) → calls limits (time_under limits) (tree_of v table) call reply (tree_of w table) need
     → WouldLead limits v table (command.Path call) reply w table need
 path_leads call limits v table reply w need told snapshots room = (told, refl)
 
 module _ {B : Type 0} {G : Ghosts B} {a b : B} {s t : InodeFile} (call : PathCall) where
   -- it isn't refused
-  pub path_done : IsFalse (is_reading_call call) → IsFalse (is_writing_call call) → (o : Option Changing) → PreparesAny G a b s t (CallComes call) (Ok o) → (files : Descriptors)
+  pub path_done : {now : Option Time} → now ≡ time_under (limits_of s.geometry) → IsFalse (is_reading_call call) → IsFalse (is_writing_call call) → (o : Option Changing) → PreparesAny now G a b s t (CallComes now call) (Ok o) → (files : Descriptors)
       → PreparesCall G a b s t files (command.Path call) (Ok (record { reply = Done; change = said_change o; table = Stays }))
-  path_done changes writes o told files =
+  path_done is changes writes o told files =
       grants told.looks (record { kind = done_is_reply call changes writes; accepted = λ errno is. cc; moves = tt; numbered = tt; limits = said_within o }) (said_so o (λ p change. IsReady t p) told.ready)
+      (said_so o (λ p change. change.time ≡ time_under (limits_of s.geometry)) (subst (λ (n : Option Time). IfSome o (λ c. c.time ≡ n)) is told.timed))
       (λ disk settled v stands. said_so o (λ p change. Does disk settled t v p change) (told.does disk settled v stands))
       (λ disk settled v stands volume mounted fits.
-      comes_so (limits_of s.geometry) v (table_of files) (command.Path call) (calls (limits_of s.geometry) (tree_of v (table_of files)) call) o (path_leads call (limits_of s.geometry) v (table_of files))
-      (told.answers disk settled v (table_of files) stands volume mounted))
+      comes_so (limits_of s.geometry) v (table_of files) (command.Path call) (calls (limits_of s.geometry) (time_under (limits_of s.geometry)) (tree_of v (table_of files)) call) o (path_leads call (limits_of s.geometry) v (table_of files))
+      (subst (λ (n : Option Time). ComesOrStays (calls (limits_of s.geometry) n (tree_of v (table_of files)) call) (limits_of s.geometry) v (table_of files) (Ok o)) is (told.answers disk settled v (table_of files) stands volume mounted)))
 
   -- it is
-  pub path_refused : (f : Failure) (q : Result PreparedCall Failure) → IsErrAnd q (λ g. g ≡ f) → PreparesAny G a b s t (CallComes call) (Err f) → (files : Descriptors)
+  pub path_refused : {now : Option Time} → now ≡ time_under (limits_of s.geometry) → (f : Failure) (q : Result PreparedCall Failure) → IsErrAnd q (λ g. g ≡ f) → PreparesAny now G a b s t (CallComes now call) (Err f) → (files : Descriptors)
       → PreparesCall G a b s t files (command.Path call) q
-  path_refused (failures.Refused errno) q is told files = carried (PreparesCall G a b s t files (command.Path call)) q is
+  path_refused same (failures.Refused errno) q is told files = carried (PreparesCall G a b s t files (command.Path call)) q is
       (refuses told.looks told.own (λ disk settled v stands volume mounted fits.
-      path_leads call (limits_of s.geometry) v (table_of files) (Refused errno) v nothing (told.answers disk settled v (table_of files) stands volume mounted)))
-  path_refused (failures.Read e) q is told files = carried (PreparesCall G a b s t files (command.Path call)) q is
+      path_leads call (limits_of s.geometry) v (table_of files) (Refused errno) v nothing
+      (subst (λ (n : Option Time). calls (limits_of s.geometry) n (tree_of v (table_of files)) call (Refused errno) (tree_of v (table_of files)) nothing) same (told.answers disk settled v (table_of files) stands volume mounted))))
+  path_refused same (failures.Read e) q is told files = carried (PreparesCall G a b s t files (command.Path call)) q is
       (stops told.looks told.damaged (λ disk settled v stands volume mounted fits. tt))
 
 -- ---- bytes that go to a file over a path
 
 -- what is prepared of them, if there are any
-abbrev pub of_storing : List ℕ → Changes (Option Storing)
-of_storing bytes o P = IfSome o (λ w. P w.prepared (change_of_store w bytes))
+abbrev pub of_storing : Option Time → List ℕ → Changes (Option Storing)
+of_storing now bytes o P = IfSome o (λ w. P w.prepared (change_of_store now w bytes))
+
+-- they are prepared for this time
+stored_then : (now : Option Time) (bytes : List ℕ) (r : Result (Option Storing) Failure) → IfOk r (λ o. of_storing now bytes o (λ p change. change.time ≡ now))
+stored_then now bytes (Ok None) = tt
+stored_then now bytes (Ok (Some w)) = refl
+stored_then now bytes (Err f) = tt
 
 -- as a call that is prepared beside a table of open files
-pub stores_beside : {B : Type 0} {G : Ghosts B} {a b : B} {s t : InodeFile} {bytes : List ℕ} {answer : Answer (Option Storing)} {r : Result (Option Storing) Failure} → PreparesStoring bytes G a b s t answer r → (files : Descriptors)
-    → PreparesOpen (of_storing bytes) (IsTransfer bytes) G a b s t files (λ v. answer (limits_of s.geometry) v (table_of files)) r
-stores_beside told files = record {
+pub stores_beside : {B : Type 0} {now : Option Time} {G : Ghosts B} {a b : B} {s t : InodeFile} {bytes : List ℕ} {answer : Answer (Option Storing)} {r : Result (Option Storing) Failure} → PreparesStoring now bytes G a b s t answer r → (files : Descriptors)
+    → PreparesOpen (of_storing now bytes) (IsTransfer bytes) now G a b s t files (λ v. answer (limits_of s.geometry) v (table_of files)) r
+stores_beside {now = now} {bytes = bytes} {r = r} told files = record {
   looks = told.looks;
   own = told.own;
   within = told.within;
   ready = told.ready;
+  timed = stored_then now bytes r;
   does = told.does;
   answers = λ disk settled v stands volume mounted fits. told.answers disk settled v (table_of files) stands volume mounted;
   damaged = told.damaged;
 }
 
 -- an offset as a number
-pub stores_at : (limits : Limits) (v : Volume) (table : ℕ → Option Description) (path bytes : List ℕ) (r : Result (Option Storing) Errno) {offset place : ℤ} → offset ≡ place
-    → StoresFile (stores limits (tree_of v table) path offset bytes) limits v table bytes r → StoresFile (stores limits (tree_of v table) path place bytes) limits v table bytes r
-stores_at limits v table path bytes r is told = subst (λ (z : ℤ). StoresFile (stores limits (tree_of v table) path z bytes) limits v table bytes r) is told
+pub stores_at : (limits : Limits) (now : Option Time) (v : Volume) (table : ℕ → Option Description) (path bytes : List ℕ) (r : Result (Option Storing) Errno) {offset place : ℤ} → offset ≡ place
+    → StoresFile (stores limits now (tree_of v table) path offset bytes) limits now v table bytes r → StoresFile (stores limits now (tree_of v table) path place bytes) limits now v table bytes r
+stores_at limits now v table path bytes r is told = subst (λ (z : ℤ). StoresFile (stores limits now (tree_of v table) path z bytes) limits now v table bytes r) is told

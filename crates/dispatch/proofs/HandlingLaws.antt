@@ -46,7 +46,7 @@ same_empty old new log root empty = record {
 }
 
 -- the record of a call fits an empty log
-pub record_fits : {S : Type 0} {G : Ghosts S} (f : System S G) (change : Change) → HasEmptyLog f → length (logged_body change) ≤ 65553
+pub record_fits : {S : Type 0} {G : Ghosts S} (f : System S G) (change : Change) → HasEmptyLog f → length (logged_body change) ≤ 65565
     → (f.log.epoch ≢ f.root.generation + 1) ⊎ (HasRoomInHalf f.log (length (logged_body change)) → ⊥) → ⊥
 record_fits f change empty short (inl not) = not empty.epoch
 record_fits f change empty short (inr full) =

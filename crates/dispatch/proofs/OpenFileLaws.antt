@@ -1,16 +1,17 @@
 -- What a call on descriptors comes to on a system that shows a state.
-use Rattle.std.proofs.Common.{◌≡◌, ℕ, List, Option, Some, Result, Err, ap, arith, sym, subst, ◌∙◌}
+use Rattle.std.proofs.Common.{◌≡◌, ℕ, Bool, List, Option, Some, Result, Err, ap, arith, sym, subst, ◌∙◌}
 use Rattle.std.specs.Prelude.{IfSome, IsFalse, IsTrue}
 use Rattle.model.specs.declared.limits.Limits.{Limits}
 use Rattle.layout.specs.StateLimits.{limits_of}
 use Rattle.station.specs.Moments.{Meaning}
 use Rattle.station.specs.declared.station.Station.{Ghosts}
-use Rattle.layout.specs.Record.{Change, IsChange}
+use Rattle.layout.specs.Record.{Change, FitsTime, IsChange}
+use Rattle.layout.proofs.TimeLaws.{now_fits}
 use Rattle.model.specs.Circumstances.{IsSure}
 use Rattle.model.specs.Paths.{Name}
 use Rattle.model.specs.Records.{Applies, applied, work_of}
 use Rattle.model.specs.Room.{nothing, logs}
-use Rattle.model.specs.States.{State}
+use Rattle.model.specs.States.{State, time_under}
 use Rattle.model.specs.Trees.{Description, Tree}
 use Rattle.model.specs.Volumes.{Volume, IsMounted, swept}
 use Rattle.model.specs.declared.command.Command.{Command}
@@ -29,7 +30,7 @@ use Rattle.descriptors.specs.Tables.{table_of}
 use Rattle.descriptors.specs.declared.table.Descriptors.{Descriptors}
 use Rattle.dispatch.specs.Answering.{IsAnswered}
 use Rattle.dispatch.specs.OpenFiles.{FitsMove, WouldLead, is_looking_call, is_table_call, moved_table}
-use Rattle.dispatch.specs.Preparing.{DoesBeside, DoesCall, DoesRecord, IsPreparedAt, PreparesCall, only_looks, recorded}
+use Rattle.dispatch.specs.Preparing.{DoesBeside, DoesCall, DoesRecord, IsPreparedAt, PreparesCall, logged_by, only_looks}
 use Rattle.dispatch.specs.Serving.{WouldCall}
 use Rattle.dispatch.specs.Showing.{IsShowing, ShowsState}
 use Rattle.system.specs.Logging.{Advances}
@@ -62,6 +63,7 @@ changing_not_sure f (command.OpenStat path flags mode below) is = (λ s shown su
 changing_not_sure f (command.Write fd given) is = (λ s shown sure. sure, λ once. once)
 changing_not_sure f (command.Pwrite fd offset given) is = (λ s shown sure. sure, λ once. once)
 changing_not_sure f (command.Ftruncate fd size) is = (λ s shown sure. sure, λ once. once)
+changing_not_sure f (command.Fchmod fd mode) is = (λ s shown sure. sure, λ once. once)
 changing_not_sure f _ is = cc
 
 -- ---- calls that log nothing
@@ -102,13 +104,13 @@ pub record IsLogged {m : Meaning} {k : Parts} {table : ℕ → Option Descriptio
   pub step : WouldCall s call reply (state_with (limits_of k.root.geometry) (swept table (applied change shown.running)) (moved_table move table) shown.snapshots) (logs (work_of shown.running change))
 
 module _ {m : Meaning} {k : Parts} {table : ℕ → Option Description} {s : State} (shown : IsShowing m k table s) {disk : ℕ → List ℕ} (call : Command) (p : PreparedCall) (c : PreparedChange) (change : Change)
-    (some : p.change ≡ Some c) (says : change ≡ recorded c.record) (prepared : IsPreparedAt k disk shown.running call p) where
+    (some : p.change ≡ Some c) (says : change ≡ logged_by c) (prepared : IsPreparedAt k disk shown.running call p) where
   pub told_logged : IsLogged shown call p.reply p.table change
   told_logged =
       let v = shown.running in
       let limits = limits_of k.root.geometry in
       let with_files : DoesBeside limits v (table_of k.files) call p.reply p.table (Some c) = subst (λ (o : Option PreparedChange). DoesBeside limits v (table_of k.files) call p.reply p.table o) some prepared.comes in
-      let of_record = subst (λ (t : ℕ → Option Description). DoesRecord limits v t call p.reply p.table (recorded c.record)) (sym shown.opened) with_files in
+      let of_record = subst (λ (t : ℕ → Option Description). DoesRecord limits v t call p.reply p.table (logged_by c)) (sym shown.opened) with_files in
       let here = subst (DoesRecord limits v table call p.reply p.table) (sym says) of_record in
       record {
         applies = here.0;
@@ -122,11 +124,12 @@ module _ {m : Meaning} {k : Parts} {table : ℕ → Option Description} {s : Sta
   does_change =
       let settled = inodes_of (whole disk k.root).active in
       subst (Does disk settled k.inodes shown.running c.prepared) (sym says)
-      (subst (λ (o : Option PreparedChange). IfSome o (λ c. Does disk settled k.inodes shown.running c.prepared (recorded c.record))) some prepared.does)
+      (subst (λ (o : Option PreparedChange). IfSome o (λ c. Does disk settled k.inodes shown.running c.prepared (logged_by c))) some prepared.does)
 
   -- and it applies
-  pub may_advance : IsChange change → Advances (limits_of k.root.geometry) shown.running table change
-  may_advance is = record { is = is; applies = told_logged.applies; mounted = told_logged.mounted }
+  pub may_advance : ((has_attributes : Bool) → FitsTime has_attributes c.time → IsChange has_attributes change) → Advances (limits_of k.root.geometry) shown.running table change
+  may_advance is =
+      let timed = subst (λ (o : Option PreparedChange). IfSome o (λ c. c.time ≡ time_under (limits_of k.root.geometry))) some prepared.timed in record { is = is (limits_of k.root.geometry).has_attributes (subst (FitsTime (limits_of k.root.geometry).has_attributes) (sym timed) (now_fits k.root.geometry)); applies = told_logged.applies; mounted = told_logged.mounted }
 
 -- behind a record, with another table of open files
 pub moved_on : {m : Meaning} {k : Parts} {table : ℕ → Option Description} (limits : Limits) {v : Volume} (snapshots : List (Name × Tree)) {changes : List Change}

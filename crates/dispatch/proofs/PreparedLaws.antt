@@ -6,7 +6,7 @@ use Rattle.station.specs.declared.station.Station.{Ghosts}
 use Rattle.layout.specs.Limits.{Sizes}
 use Rattle.layout.specs.Places.{blocks_of}
 use Rattle.layout.specs.declared.root.Root.{Root}
-use Rattle.model.specs.States.{State}
+use Rattle.model.specs.States.{State, time_under}
 use Rattle.model.specs.Trees.{Description}
 use Rattle.model.specs.declared.command.Command.{Command}
 use Rattle.model.specs.declared.reply.Reply.TheVariants.{Refused}
@@ -28,7 +28,7 @@ use Rattle.system.specs.Waits.{Waits}
 use Rattle.system.specs.declared.system.System.{System}
 use Rattle.dispatch.specs.Answering.{Answers, IsAnswered, answer_to}
 use Rattle.dispatch.specs.OpenFiles.{CanMove, HasRoomToMove, OpensNumber}
-use Rattle.dispatch.specs.Preparing.{CanCarryOut, DoesBeside, DoesCall, IsPreparedAt, PreparesCall, PreparesOn, recorded}
+use Rattle.dispatch.specs.Preparing.{CanCarryOut, DoesBeside, DoesCall, IsPreparedAt, PreparesCall, PreparesOn, logged_by}
 use Rattle.dispatch.specs.Showing.{ShowsNext, ShowsState}
 use Rattle.dispatch.specs.declared.prepared_call.PreparedCall.{PreparedCall}
 use Rattle.dispatch.proofs.LookedLaws.{ahead_shows, never_damaged, on_open, on_volumes, same_disk, served_shows}
@@ -66,9 +66,10 @@ prepared_at f mid call p prepares shown =
     let parts = prepares.parts in
     let v = shown.running in
     let root : mid.root ≡ f.root = ap (λ (k : Parts). k.root) parts in
-    let DoesOver = λ (d : ℕ → List ℕ) (r : Root). IfSome p.change (λ c. Does (blocks_of d) (inodes_of (whole (blocks_of d) r).active) mid.inodes v c.prepared (recorded c.record)) in
+    let DoesOver = λ (d : ℕ → List ℕ) (r : Root). IfSome p.change (λ c. Does (blocks_of d) (inodes_of (whole (blocks_of d) r).active) mid.inodes v c.prepared (logged_by c)) in
     let Comes = λ (g : Sizes) (t : ℕ → Option Description). DoesBeside (limits_of g) v t call p.reply p.table p.change in
     record {
+      timed = subst (λ (g : Sizes). IfSome p.change (λ c. c.time ≡ time_under (limits_of g))) (f.sizes ∙ ap (λ (r : Root). r.geometry) (sym root)) told.timed;
       does = subst (λ (r : Root). DoesOver (disk_of mid) r) (sym root) (subst (λ (d : ℕ → List ℕ). DoesOver d f.root) (same_disk told.looks.reads shown.honest) (on_volumes f shown told.does));
       comes = subst (λ (t : ℕ → Option Description). Comes mid.root.geometry t) (sym prepares.table)
           (subst (λ (g : Sizes). Comes g (table_of f.files)) (f.sizes ∙ ap (λ (r : Root). r.geometry) (sym root)) (on_open f shown told.answers));
@@ -108,6 +109,7 @@ module _ {B : Type 0} {G : blocks.Ghosts B} {a b : B} {s t : InodeFile} {files :
         own = tt;
         within = tt;
         ready = tt;
+        timed = tt;
         does = λ disk settled v stands. tt;
         answers = λ disk settled v stands volume mounted fits. tt;
         damaged = λ disk settled v stands bad. cc;

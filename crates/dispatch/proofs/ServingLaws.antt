@@ -10,7 +10,7 @@ use Rattle.model.specs.Circumstances.{IsSure}
 use Rattle.model.specs.Replies.{IsReplyTo}
 use Rattle.model.specs.Reading.{tells_extent}
 use Rattle.model.specs.Room.{Room, nothing}
-use Rattle.model.specs.States.{State}
+use Rattle.model.specs.States.{State, now_of, time_under}
 use Rattle.model.specs.Steps.{WouldStep, calls, is_reading_call}
 use Rattle.model.specs.Trees.{Description}
 use Rattle.model.specs.Volumes.{tree_of}
@@ -42,10 +42,10 @@ use Rattle.dispatch.proofs.ShowingLaws.{KeepsViews}
 module _ {m : Meaning} {k : Parts} {table : ℕ → Option Description} {s : State} (shown : IsShowing m k table s) where
   -- what is told of a system's volume is told of the state that it shows
   pub told_of : (call : PathCall) (reply : Reply) {sizes : Sizes} → sizes ≡ k.root.geometry
-      → calls (limits_of sizes) (tree_of shown.running table) call reply (tree_of shown.running table) nothing → WouldCall s (command.Path call) reply s nothing
+      → calls (limits_of sizes) (time_under (limits_of sizes)) (tree_of shown.running table) call reply (tree_of shown.running table) nothing → WouldCall s (command.Path call) reply s nothing
   told_of call reply same told room = (
-    subst (λ (u : State). calls u.limits u.tree call reply u.tree nothing) (sym shown.state)
-        (subst (λ (z : Sizes). calls (limits_of z) (tree_of shown.running table) call reply (tree_of shown.running table) nothing) same told),
+    subst (λ (u : State). calls u.limits (now_of u) u.tree call reply u.tree nothing) (sym shown.state)
+        (subst (λ (z : Sizes). calls (limits_of z) (time_under (limits_of z)) (tree_of shown.running table) call reply (tree_of shown.running table) nothing) same told),
     refl,
   )
 

@@ -6,7 +6,7 @@ use Rattle.model.specs.Circumstances.{IsSure}
 use Rattle.model.specs.Outcomes.{Outcome}
 use Rattle.model.specs.Replies.{IsReplyTo}
 use Rattle.model.specs.Room.{nothing}
-use Rattle.model.specs.States.{State}
+use Rattle.model.specs.States.{State, time_under}
 use Rattle.model.specs.Steps.{calls}
 use Rattle.model.specs.Trees.{Tree}
 use Rattle.model.specs.declared.command.Command.{Command}
@@ -29,9 +29,9 @@ use Rattle.system.specs.declared.system.System.{System}
 use Rattle.dispatch.specs.Serving.{AnswersAtOnce, IsAtOnce, IsSureOn, TellsNoFault, WouldCallOn}
 use Rattle.dispatch.specs.Showing.{ShowsNext, ShowsState}
 
--- what a call by a path comes to on a tree within limits
+-- what a call by a path comes to on a tree within limits, at the time of calls
 abbrev pub asks : PathCall → Limits → Tree → Outcome
-asks call limits t = calls limits t call
+asks call limits t = calls limits (time_under limits) t call
 
 -- a reply, or a refusal, as it is answered
 abbrev pub answered_reply : Result Reply Errno → Reply

@@ -4,17 +4,18 @@ use Rattle.model.specs.Steps.{calls}
 use Rattle.model.specs.Volumes.{tree_of}
 use Rattle.model.specs.declared.command.PathCall.{PathCall}
 use Rattle.model.specs.declared.command.PathCall.TheVariants as call
+use Rattle.model.specs.declared.time.Time.{Time}
 use Rattle.calls.specs.Changing.{ComesOrStays, ComesSwept}
 use Rattle.calls.specs.Preparing.{Answer}
 use Rattle.calls.specs.declared.changed.Changing.{Changing}
 
--- what a call by a path comes to on a volume within limits
-abbrev pub CallComes : PathCall → Answer (Option Changing)
-CallComes c limits v table r = ComesOrStays (calls limits (tree_of v table) c) limits v table r
+-- what a call by a path comes to at this time on a volume within limits
+abbrev pub CallComes : Option Time → PathCall → Answer (Option Changing)
+CallComes now c limits v table r = ComesOrStays (calls limits now (tree_of v table) c) limits v table r
 
 -- the same of one that has a record where it isn't refused
-abbrev pub RecordComes : PathCall → Answer Changing
-RecordComes c limits v table r = ComesSwept (calls limits (tree_of v table) c) limits v table r
+abbrev pub RecordComes : Option Time → PathCall → Answer Changing
+RecordComes now c limits v table r = ComesSwept (calls limits now (tree_of v table) c) limits v table r
 
 -- the call writes bytes: it is `store`
 abbrev pub is_writing_call : PathCall → Bool

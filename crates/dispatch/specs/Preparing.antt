@@ -3,10 +3,11 @@ use Rattle.std.specs.Prelude.{ℕ, ◌≡◌, ◌≤◌, Bool, true, false, List
 use Rattle.model.specs.declared.limits.Limits.{Limits}
 use Rattle.layout.specs.StateLimits.{limits_of}
 use Rattle.station.specs.declared.station.Station.{Ghosts}
-use Rattle.layout.specs.Record.{Change, write}
+use Rattle.layout.specs.Record.{Change, Edit, stamped, write}
 use Rattle.model.specs.Records.{Applies, applied, work_of}
 use Rattle.model.specs.Replies.{IsReplyTo}
 use Rattle.model.specs.Room.{logs, nothing}
+use Rattle.model.specs.States.{time_under}
 use Rattle.model.specs.Steps.{is_reading_call}
 use Rattle.model.specs.Trees.{Description}
 use Rattle.model.specs.Volumes.{IsMounted, Volume, swept}
@@ -48,6 +49,7 @@ only_looks (command.OpenStat path flags mode below) = false
 only_looks (command.Write fd given) = false
 only_looks (command.Pwrite fd offset given) = false
 only_looks (command.Ftruncate fd size) = false
+only_looks (command.Fchmod fd mode) = false
 only_looks _ = true
 
 -- the call opens a file, and is told of it or not
@@ -56,9 +58,13 @@ opening_call false path flags mode below = command.Open path flags mode below
 opening_call true path flags mode below = command.OpenStat path flags mode below
 
 -- what the record of a call says
-abbrev pub recorded : CallRecord → Change
+abbrev pub recorded : CallRecord → Edit
 recorded (Says change) = said_by change
 recorded (Writes number offset bytes) = write number offset bytes.now
+
+-- the same with its time
+abbrev pub logged_by : PreparedChange → Change
+logged_by c = stamped c.time (recorded c.record)
 
 -- the log takes it: bytes that are written are some, and not too many
 abbrev pub KeepsRecord : CallRecord → Type 0
@@ -78,7 +84,7 @@ abbrev pub DoesBeside : Limits → Volume → (ℕ → Option Description) → C
 DoesBeside limits v table call reply move None =
     FitsMove v move × WouldLead limits v table call reply v (moved_table move table) nothing
 DoesBeside limits v table call reply move (Some c) =
-    DoesRecord limits v table call reply move (recorded c.record)
+    DoesRecord limits v table call reply move (logged_by c)
 
 -- what a call comes to: a refusal, or what is to be done
 abbrev pub DoesCall : Limits → Volume → (ℕ → Option Description) → Command → Result PreparedCall Errno → Type 0
@@ -88,11 +94,11 @@ DoesCall limits v table call (Ok p) = DoesBeside limits v table call p.reply p.t
 -- a change whose record says what it does, if there is one
 abbrev pub said_change : Option Changing → Option PreparedChange
 said_change None = None
-said_change (Some c) = Some (record { «record» = Says c.change; prepared = c.prepared })
+said_change (Some c) = Some (record { time = c.time; «record» = Says c.change; prepared = c.prepared })
 
 -- what is prepared beside the table, if anything is
 abbrev pub of_prepared : Changes PreparedCall
-of_prepared p P = IfSome p.change (λ c. P c.prepared (recorded c.record))
+of_prepared p P = IfSome p.change (λ c. P c.prepared (logged_by c))
 
 -- What a call is to do can be done to these descriptors, and goes into the log; its reply is of the
 -- call's kind.
@@ -107,7 +113,7 @@ pub record MayDo (inodes : ℕ) (files : Descriptors) (call : Command) (p : Prep
 -- why it is refused.
 abbrev pub PreparesCall : {B : Type 0} → blocks.Ghosts B → B → B → InodeFile → InodeFile → Descriptors → Command → Result PreparedCall Failure → Type 0
 PreparesCall G blocks after s t files call result =
-    PreparesOpen of_prepared (MayDo s.geometry.inodes files call) G blocks after s t files (λ v. DoesCall (limits_of s.geometry) v (table_of files) call) result
+    PreparesOpen of_prepared (MayDo s.geometry.inodes files call) (time_under (limits_of s.geometry)) G blocks after s t files (λ v. DoesCall (limits_of s.geometry) v (table_of files) call) result
 
 -- what is prepared can be done to what a system has: the log takes its record, and memory has room
 -- for its change, and for what it opens
@@ -132,7 +138,9 @@ pub record PreparesOn {S : Type 0} {G : Ghosts S} (old new : System S G) (call :
   pub fits : (v : Volume) → FitsVolume old.files v → FitsVolume new.files v
   pub can : IfOk result (CanCarryOut (system_parts new))
 
--- where memory stands for this volume over this disk, it does what the call does
+-- where memory stands for this volume over this disk, it does what the call does, at the time of
+-- calls
 pub record IsPreparedAt (k : Parts) (disk : ℕ → List ℕ) (v : Volume) (call : Command) (p : PreparedCall) : Type 0 where
-  pub does : IfSome p.change (λ c. Does disk (inodes_of (whole disk k.root).active) k.inodes v c.prepared (recorded c.record))
+  pub timed : IfSome p.change (λ c. c.time ≡ time_under (limits_of k.root.geometry))
+  pub does : IfSome p.change (λ c. Does disk (inodes_of (whole disk k.root).active) k.inodes v c.prepared (logged_by c))
   pub comes : DoesBeside (limits_of k.root.geometry) v (table_of k.files) call p.reply p.table p.change

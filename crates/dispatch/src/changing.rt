@@ -64,10 +64,12 @@ pub(crate) fn prepare<'a, S: Station>(
     requires { IsFalse (only_looks call.now) }
     ensures { PreparesOn system.old system.new call.now result }
 {
+    let now = system.now();
     let prepared = prepare_call(
         system.alloc,
         &mut system.inodes,
         &mut system.blocks,
+        now,
         &system.files,
         call,
     )?;
@@ -99,8 +101,14 @@ fn carry_out<S: Station>(
         table,
     } = prepared;
     match change {
-        Some(PreparedChange { record, prepared }) => {
-            match system.log(&record.record(), prepared) {
+        Some(
+            PreparedChange {
+                time,
+                record,
+                prepared,
+            },
+        ) => {
+            match system.log(&record.record(time), prepared) {
                 Ok(()) => {
                     table.put_into(&mut system.files);
                     Ok(reply)

@@ -1,8 +1,10 @@
-//! Calls on descriptors that change something, as they are prepared on the image in memory and the
-//! table of open files, as far as nothing of it is seen yet; or why they are refused. NoMemory;
+//! Calls on descriptors that change something, as they are prepared at a time, on the image in memory
+//! and the table of open files, as far as nothing of it is seen yet; or why they are refused. NoMemory;
 //! Device where a read failed; Damaged where a block on the way is outside its format.
 
 ghost use Rattle.std.specs.Prelude.{◌≡◌};
+ghost use Rattle.layout.specs.StateLimits.{limits_of};
+ghost use Rattle.model.specs.States.{time_under};
 ghost use Rattle.model.specs.declared.command.Command.TheVariants as command;
 ghost use Rattle.records.specs.Opened.{HasNumbers};
 ghost use Rattle.files.specs.Opening.{opening_reply};
@@ -12,9 +14,12 @@ use crate::prepared_call::{CallRecord, PreparedCall, PreparedChange, said};
 use crate::table_move::TableMove;
 use buffers::Blocks;
 use descriptors::Descriptors;
-use files::{Opening, Writing, prepare_ftruncate, prepare_open, prepare_pwrite, prepare_write};
+use files::{
+    Opening, Writing, prepare_fchmod, prepare_ftruncate, prepare_open, prepare_pwrite,
+    prepare_write,
+};
 use inofile::InodeFile;
-use model::{Flags, Mode, Reply};
+use model::{Flags, Mode, Reply, Time};
 use records::Failure;
 use std::alloc::Global;
 
@@ -23,14 +28,17 @@ pub(crate) fn prepare_writing<'a, B: Blocks>(
     alloc: Global,
     inodes: &mut InodeFile,
     blocks: &mut B,
+    now: Option<Time>,
     files: &Descriptors,
     fd: u32,
     bytes: &'a [u8],
 ) -> Result<PreparedCall<'a>, Failure>
+    requires { now ≡ time_under (limits_of inodes.old.geometry) }
     ensures { PreparesCall B.Blocks blocks.old blocks.new inodes.old inodes.new files.now
         (command.Write fd bytes.now) result }
 {
-    let found = prepare_write(alloc, inodes, blocks, files, fd, bytes)?;
+    let time = now;
+    let found = prepare_write(alloc, inodes, blocks, now, files, fd, bytes)?;
     match found {
         Some(writing) => {
             let Writing { written, prepared } = writing;
@@ -41,7 +49,11 @@ pub(crate) fn prepare_writing<'a, B: Blocks>(
             };
             Ok(PreparedCall {
                 reply: Reply::Wrote(bytes.len() as u32),
-                change: Some(PreparedChange { record, prepared }),
+                change: Some(PreparedChange {
+                    time,
+                    record,
+                    prepared,
+                }),
                 table: TableMove::Moves {
                     fd,
                     place: written.behind,
@@ -57,19 +69,23 @@ pub(crate) fn prepare_writing<'a, B: Blocks>(
 }
 
 /// The same of a write at an offset, whatever the descriptor's own.
+#[allow(clippy::too_many_arguments)]
 pub(crate) fn prepare_writing_at<'a, B: Blocks>(
     alloc: Global,
     inodes: &mut InodeFile,
     blocks: &mut B,
+    now: Option<Time>,
     files: &Descriptors,
     fd: u32,
     offset: i64,
     bytes: &'a [u8],
 ) -> Result<PreparedCall<'a>, Failure>
+    requires { now ≡ time_under (limits_of inodes.old.geometry) }
     ensures { PreparesCall B.Blocks blocks.old blocks.new inodes.old inodes.new files.now
         (command.Pwrite fd offset bytes.now) result }
 {
-    let found = prepare_pwrite(alloc, inodes, blocks, files, fd, offset, bytes)?;
+    let time = now;
+    let found = prepare_pwrite(alloc, inodes, blocks, now, files, fd, offset, bytes)?;
     match found {
         Some(writing) => {
             let Writing { written, prepared } = writing;
@@ -80,7 +96,11 @@ pub(crate) fn prepare_writing_at<'a, B: Blocks>(
             };
             Ok(PreparedCall {
                 reply: Reply::Wrote(bytes.len() as u32),
-                change: Some(PreparedChange { record, prepared }),
+                change: Some(PreparedChange {
+                    time,
+                    record,
+                    prepared,
+                }),
                 table: TableMove::Stays,
             })
         }
@@ -97,15 +117,39 @@ pub(crate) fn prepare_truncating<'a, B: Blocks>(
     alloc: Global,
     inodes: &mut InodeFile,
     blocks: &mut B,
+    now: Option<Time>,
     files: &Descriptors,
     fd: u32,
     size: i64,
 ) -> Result<PreparedCall<'a>, Failure>
-    requires { HasNumbers inodes.old.geometry.inodes files.now }
+    requires numbers { HasNumbers inodes.old.geometry.inodes files.now }
+    requires time { now ≡ time_under (limits_of inodes.old.geometry) }
     ensures { PreparesCall B.Blocks blocks.old blocks.new inodes.old inodes.new files.now
         (command.Ftruncate fd size) result }
 {
-    let found = prepare_ftruncate(alloc, inodes, blocks, files, fd, size)?;
+    let found = prepare_ftruncate(alloc, inodes, blocks, now, files, fd, size)?;
+    Ok(PreparedCall {
+        reply: Reply::Done,
+        change: said(found),
+        table: TableMove::Stays,
+    })
+}
+
+/// The same of a new mode.
+pub(crate) fn prepare_changing_mode<'a, B: Blocks>(
+    alloc: Global,
+    inodes: &mut InodeFile,
+    blocks: &mut B,
+    now: Option<Time>,
+    files: &Descriptors,
+    fd: u32,
+    mode: Mode,
+) -> Result<PreparedCall<'a>, Failure>
+    requires { now ≡ time_under (limits_of inodes.old.geometry) }
+    ensures { PreparesCall B.Blocks blocks.old blocks.new inodes.old inodes.new files.now
+        (command.Fchmod fd mode) result }
+{
+    let found = prepare_fchmod(alloc, inodes, blocks, now, files, fd, mode)?;
     Ok(PreparedCall {
         reply: Reply::Done,
         change: said(found),
@@ -120,6 +164,7 @@ pub(crate) fn prepare_opening<'a, B: Blocks>(
     alloc: Global,
     inodes: &mut InodeFile,
     blocks: &mut B,
+    now: Option<Time>,
     files: &Descriptors,
     path: &[u8],
     flags: Flags,
@@ -127,10 +172,11 @@ pub(crate) fn prepare_opening<'a, B: Blocks>(
     below: u32,
     tells: bool,
 ) -> Result<PreparedCall<'a>, Failure>
+    requires { now ≡ time_under (limits_of inodes.old.geometry) }
     ensures { PreparesCall B.Blocks blocks.old blocks.new inodes.old inodes.new files.now
         (opening_call tells path.now flags mode below) result }
 {
-    let opening = prepare_open(alloc, inodes, blocks, files, path, flags, mode, below)?;
+    let opening = prepare_open(alloc, inodes, blocks, now, files, path, flags, mode, below)?;
     let reply = reply_of(&opening, tells);
     let Opening {
         fd,

@@ -1,6 +1,9 @@
-//! What calls by paths are to change.
+//! What calls by paths are to change, at a time.
 
-ghost use Rattle.std.specs.Prelude.{IsFalse};
+ghost use Rattle.std.specs.Prelude.{◌≡◌, IsFalse};
+ghost use Rattle.layout.specs.StateLimits.{limits_of};
+ghost use Rattle.model.specs.Attributes.{KeepsTime};
+ghost use Rattle.model.specs.States.{time_under};
 ghost use Rattle.model.specs.Steps.{is_reading_call};
 ghost use Rattle.model.specs.declared.command.Command.TheVariants as command;
 ghost use Rattle.model.specs.declared.command.PathCall.TheVariants as call;
@@ -14,7 +17,7 @@ use crate::table_move::TableMove;
 use buffers::Blocks;
 use calls::{Changing, Storing};
 use inofile::InodeFile;
-use model::{PathCall, Reply};
+use model::{PathCall, Reply, Time};
 use records::Failure;
 use std::alloc::Global;
 
@@ -25,18 +28,20 @@ pub(crate) fn prepare_path_call<'a, B: Blocks>(
     alloc: Global,
     inodes: &mut InodeFile,
     blocks: &mut B,
+    now: Option<Time>,
     call: &'a PathCall<'_>,
 ) -> Result<PreparedCall<'a>, Failure>
-    requires { IsFalse (is_reading_call call.now) }
+    requires changes { IsFalse (is_reading_call call.now) }
+    requires time { now ≡ time_under (limits_of inodes.old.geometry) }
     ensures { (files : Descriptors) → PreparesCall B.Blocks blocks.old blocks.new inodes.old inodes.new
         files (command.Path call.now) result }
 {
     match call {
         PathCall::Store { path, offset, data } => {
             let bytes = data.as_bytes();
-            prepare_storing(alloc, inodes, blocks, path.as_bytes(), *offset, bytes)
+            prepare_storing(alloc, inodes, blocks, now, path.as_bytes(), *offset, bytes)
         }
-        _ => prepare_done(alloc, inodes, blocks, call),
+        _ => prepare_done(alloc, inodes, blocks, now, call),
     }
 }
 
@@ -45,14 +50,17 @@ fn prepare_storing<'a, B: Blocks>(
     alloc: Global,
     inodes: &mut InodeFile,
     blocks: &mut B,
+    now: Option<Time>,
     path: &[u8],
     offset: i64,
     bytes: &'a [u8],
 ) -> Result<PreparedCall<'a>, Failure>
+    requires { now ≡ time_under (limits_of inodes.old.geometry) }
     ensures { (files : Descriptors) → PreparesCall B.Blocks blocks.old blocks.new inodes.old inodes.new
         files (command.Path (call.Store path.now offset bytes.now)) result }
 {
-    let found = calls::store(alloc, inodes, blocks, path, offset, bytes)?;
+    let time = now;
+    let found = calls::store(alloc, inodes, blocks, now, path, offset, bytes)?;
     match found {
         Some(storing) => {
             let Storing {
@@ -67,7 +75,11 @@ fn prepare_storing<'a, B: Blocks>(
             };
             Ok(PreparedCall {
                 reply: Reply::Wrote(bytes.len() as u32),
-                change: Some(PreparedChange { record, prepared }),
+                change: Some(PreparedChange {
+                    time,
+                    record,
+                    prepared,
+                }),
                 table: TableMove::Stays,
             })
         }
@@ -84,14 +96,16 @@ fn prepare_done<'a, B: Blocks>(
     alloc: Global,
     inodes: &mut InodeFile,
     blocks: &mut B,
+    now: Option<Time>,
     call: &PathCall<'_>,
 ) -> Result<PreparedCall<'a>, Failure>
     requires changes { IsFalse (is_reading_call call.now) }
     requires writes_none { IsFalse (is_writing_call call.now) }
+    requires time { now ≡ time_under (limits_of inodes.old.geometry) }
     ensures { (files : Descriptors) → PreparesCall B.Blocks blocks.old blocks.new inodes.old inodes.new
         files (command.Path call.now) result }
 {
-    let changing = prepare_change(alloc, inodes, blocks, call)?;
+    let changing = prepare_change(alloc, inodes, blocks, now, call)?;
     Ok(PreparedCall {
         reply: Reply::Done,
         change: said(changing),
@@ -104,28 +118,46 @@ fn prepare_change<B: Blocks>(
     alloc: Global,
     inodes: &mut InodeFile,
     blocks: &mut B,
+    now: Option<Time>,
     call: &PathCall<'_>,
 ) -> Result<Option<Changing>, Failure>
     requires changes { IsFalse (is_reading_call call.now) }
     requires writes_none { IsFalse (is_writing_call call.now) }
-    ensures { PreparesAny B.Blocks blocks.old blocks.new inodes.old inodes.new
-        (CallComes call.now) result }
+    requires now { KeepsTime (limits_of inodes.old.geometry).has_attributes now }
+    ensures { PreparesAny now B.Blocks blocks.old blocks.new inodes.old inodes.new
+        (CallComes now call.now) result }
 {
     match call {
         PathCall::Rename { old, new } => {
-            calls::rename(alloc, inodes, blocks, old.as_bytes(), new.as_bytes(), false)
+            calls::rename(
+                alloc,
+                inodes,
+                blocks,
+                now,
+                old.as_bytes(),
+                new.as_bytes(),
+                false,
+            )
         }
         PathCall::RenameNew { old, new } => {
-            calls::rename(alloc, inodes, blocks, old.as_bytes(), new.as_bytes(), true)
+            calls::rename(
+                alloc,
+                inodes,
+                blocks,
+                now,
+                old.as_bytes(),
+                new.as_bytes(),
+                true,
+            )
         }
         PathCall::Truncate { path, size } => {
-            calls::truncate(alloc, inodes, blocks, path.as_bytes(), *size)
+            calls::truncate(alloc, inodes, blocks, now, path.as_bytes(), *size)
         }
         PathCall::Set { path, settings } => {
-            calls::set(alloc, inodes, blocks, path.as_bytes(), *settings)
+            calls::set(alloc, inodes, blocks, now, path.as_bytes(), *settings)
         }
         _ => {
-            let changing = prepare_record(alloc, inodes, blocks, call)?;
+            let changing = prepare_record(alloc, inodes, blocks, now, call)?;
             Ok(Some(changing))
         }
     }
@@ -136,30 +168,32 @@ fn prepare_record<B: Blocks>(
     alloc: Global,
     inodes: &mut InodeFile,
     blocks: &mut B,
+    now: Option<Time>,
     call: &PathCall<'_>,
 ) -> Result<Changing, Failure>
     requires changes { IsFalse (is_reading_call call.now) }
     requires writes_none { IsFalse (is_writing_call call.now) }
     requires changes_always { IsFalse (may_stay call.now) }
-    ensures { Prepares B.Blocks blocks.old blocks.new inodes.old inodes.new
-        (RecordComes call.now) result }
+    requires now { KeepsTime (limits_of inodes.old.geometry).has_attributes now }
+    ensures { Prepares now B.Blocks blocks.old blocks.new inodes.old inodes.new
+        (RecordComes now call.now) result }
 {
     match call {
         PathCall::Mkdir { path, mode } => {
-            calls::make_directory(alloc, inodes, blocks, path.as_bytes(), *mode)
+            calls::make_directory(alloc, inodes, blocks, now, path.as_bytes(), *mode)
         }
         PathCall::Symlink { text, path } => {
-            calls::symlink(alloc, inodes, blocks, text.as_bytes(), path.as_bytes())
+            calls::symlink(alloc, inodes, blocks, now, text.as_bytes(), path.as_bytes())
         }
         PathCall::Link { old, new } => {
-            calls::link(alloc, inodes, blocks, old.as_bytes(), new.as_bytes())
+            calls::link(alloc, inodes, blocks, now, old.as_bytes(), new.as_bytes())
         }
-        PathCall::Unlink { path } => calls::unlink(alloc, inodes, blocks, path.as_bytes()),
+        PathCall::Unlink { path } => calls::unlink(alloc, inodes, blocks, now, path.as_bytes()),
         PathCall::Rmdir { path } => {
-            calls::remove_directory(alloc, inodes, blocks, path.as_bytes())
+            calls::remove_directory(alloc, inodes, blocks, now, path.as_bytes())
         }
         PathCall::Chmod { path, mode } => {
-            calls::change_mode(alloc, inodes, blocks, path.as_bytes(), *mode)
+            calls::change_mode(alloc, inodes, blocks, now, path.as_bytes(), *mode)
         }
         _ => unreachable!(),
     }

@@ -1,14 +1,14 @@
 //! Calls that are prepared: what they are to do, of which nothing is seen yet.
 
-ghost use Rattle.std.specs.Prelude.{◌≡◌, ◌≤◌, ◌+◌, length};
-ghost use Rattle.layout.specs.Record.{body_of, change_of, IsChange, KeepsLimits, write};
+ghost use Rattle.std.specs.Prelude.{◌≡◌, ◌≤◌, ◌+◌, Bool, length};
+ghost use Rattle.layout.specs.Record.{body_of, change_of, FitsTime, IsChange, KeepsLimits, stamped, write};
 ghost use Rattle.model.specs.declared.limits.TheConstants.{TRANSFER_BYTES};
 ghost use Rattle.dispatch.specs.Preparing.{KeepsRecord, recorded, said_change};
 
 use crate::table_move::TableMove;
 use calls::{Changing, OwnedChange};
-use layout::{InodeNumber, Record};
-use model::Reply;
+use layout::{Edit, InodeNumber, Record};
+use model::{Reply, Time};
 use records::Prepared;
 
 /// The record of a call.
@@ -24,9 +24,11 @@ pub(crate) enum CallRecord<'a> {
     },
 }
 
-/// What a call changes: what its record says, and its prepared change.
+/// What a call changes: what its record says, and when, where objects have times; and its prepared
+/// change.
 #[derive(Drop)]
 pub(crate) struct PreparedChange<'a> {
+    pub(crate) time: Option<Time>,
     pub(crate) record: CallRecord<'a>,
     pub(crate) prepared: Prepared,
 }
@@ -41,38 +43,43 @@ pub(crate) struct PreparedCall<'a> {
 }
 
 impl CallRecord<'_> {
-    /// The record, as the log takes it.
-    pub(crate) fn record(&self) -> Record<'_>
+    /// The record at this time, as the log takes it.
+    pub(crate) fn record(&self, time: Option<Time>) -> Record<'_>
         requires { KeepsRecord self.now }
-        ensures says { change_of result ≡ recorded self.now }
+        ensures says { change_of result ≡ stamped time (recorded self.now) }
         ensures limits { KeepsLimits (change_of result) }
-        ensures is { IsChange (change_of result) }
-        ensures short { length (body_of result) ≤ 17 + TRANSFER_BYTES }
+        ensures is { (has_attributes : Bool) → FitsTime has_attributes time
+            → IsChange has_attributes (change_of result) }
+        ensures short { length (body_of result) ≤ 29 + TRANSFER_BYTES }
     {
         match self {
-            CallRecord::Says(change) => change.record(),
+            CallRecord::Says(change) => change.record(time),
             CallRecord::Writes {
                 number,
                 offset,
                 bytes,
-            } => write_record(*number, *offset, bytes),
+            } => write_record(time, *number, *offset, bytes),
         }
     }
 }
 
-/// The record of a write, as the log takes it.
-fn write_record(number: InodeNumber, offset: u64, bytes: &[u8]) -> Record<'_>
+/// The record of a write at this time, as the log takes it.
+fn write_record(time: Option<Time>, number: InodeNumber, offset: u64, bytes: &[u8]) -> Record<'_>
     requires some { 1 ≤ length bytes.now }
     requires most { length bytes.now ≤ TRANSFER_BYTES }
-    ensures says { change_of result ≡ write number offset bytes.now }
-    ensures is { IsChange (change_of result) }
+    ensures says { change_of result ≡ stamped time (write number offset bytes.now) }
+    ensures is { (has_attributes : Bool) → FitsTime has_attributes time
+        → IsChange has_attributes (change_of result) }
 {
     // Its type holds the number to what its field has room for.
     let _ = number.get();
-    Record::Write {
-        number,
-        offset,
-        bytes,
+    Record {
+        time,
+        edit: Edit::Write {
+            number,
+            offset,
+            bytes,
+        },
     }
 }
 
@@ -81,9 +88,19 @@ pub(crate) fn said<'a>(changing: Option<Changing>) -> Option<PreparedChange<'a>>
     ensures { result ≡ said_change changing }
 {
     match changing {
-        Some(Changing { change, prepared }) => {
+        Some(
+            Changing {
+                time,
+                change,
+                prepared,
+            },
+        ) => {
             let record = CallRecord::Says(change);
-            Some(PreparedChange { record, prepared })
+            Some(PreparedChange {
+                time,
+                record,
+                prepared,
+            })
         }
         None => None,
     }

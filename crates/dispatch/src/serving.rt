@@ -63,6 +63,7 @@ fn looks_only(call: &Command<'_>) -> bool
         Command::Write { .. } => false,
         Command::Pwrite { .. } => false,
         Command::Ftruncate { .. } => false,
+        Command::Fchmod { .. } => false,
         _ => true,
     }
 }

@@ -45,8 +45,14 @@ fn carry_out_waiting<S: Station>(
         table,
     } = prepared;
     match change {
-        Some(PreparedChange { record, prepared }) => {
-            match system.wait(waiting, &record.record(), prepared) {
+        Some(
+            PreparedChange {
+                time,
+                record,
+                prepared,
+            },
+        ) => {
+            match system.wait(waiting, &record.record(time), prepared) {
                 Ok(()) => {
                     table.put_into(&mut system.files);
                     Ok(reply)

@@ -18,7 +18,8 @@ use Rattle.model.specs.declared.reply.Reply.{Reply}
 use Rattle.model.specs.declared.reply.Reply.TheVariants as replies
 use Rattle.model.specs.declared.reply.Reply.TheVariants.{Refused}
 use Rattle.model.specs.declared.reply.Stat.{Stat}
-use Rattle.calls.specs.Changing.{said_by}
+use Rattle.model.specs.declared.time.Time.{Time}
+use Rattle.calls.specs.Changing.{change_by}
 use Rattle.calls.specs.Open.{IsOpened, OpensAt, OpensOver as FindsOver, opened_reply, opened_tree, opens_along}
 use Rattle.calls.specs.declared.changed.Changing.{Changing}
 use Rattle.calls.specs.declared.preparing.open.Opened.{Opened}
@@ -33,7 +34,7 @@ use Rattle.files.specs.Opening.{OpensDescriptor, OpensDescriptorOver, opening_re
 use Rattle.files.specs.declared.opening.Opening.{Opening}
 use Rattle.files.proofs.OpenLaws.{passes, refused_by}
 
-module _ (below : ℕ) (limits : Limits) (v : Volume) (table : Descriptors) (text : List ℕ) (flags : Flags) (mode : ℕ) where
+module _ (below : ℕ) (limits : Limits) (now : Option Time) (v : Volume) (table : Descriptors) (text : List ℕ) (flags : Flags) (mode : ℕ) where
   abbrev t : Tree
   t = tree_with table v
 
@@ -41,10 +42,10 @@ module _ (below : ℕ) (limits : Limits) (v : Volume) (table : Descriptors) (tex
   tests = text_tests_then limits (open_tests flags) text
 
   abbrev along : Bool → ℕ → Outcome
-  along = opens_along limits t text flags mode
+  along = opens_along limits now t text flags mode
 
   abbrev outcome : Bool → Outcome
-  outcome tells = opens tells below limits t text flags mode
+  outcome tells = opens tells below limits now t text flags mode
 
   abbrev free_fd : Option ℕ
   free_fd = lowest_free (table_of table) (min below OPEN_FILES)
@@ -98,8 +99,8 @@ module _ (below : ℕ) (limits : Limits) (v : Volume) (table : Descriptors) (tex
         over : (changing : Option Changing) → FindsOver along limits flags v (table_of table) o changing → OpensDescriptorOver outcome limits v table opening changing
         over None (is, opened) = (is_file v is, λ tells. opens_at v nothing tells (opened tells fd))
         over (Some c) (applies, mounted, is, opened) =
-            let w = swept (table_of table) (applied (said_by c.change) v) in
-            (applies, mounted, is_file w is, λ tells. opens_at w (logs (work_of v (said_by c.change))) tells (opened tells fd))
+            let w = swept (table_of table) (applied (change_by c) v) in
+            (applies, mounted, is_file w is, λ tells. opens_at w (logs (work_of v (change_by c))) tells (opened tells fd))
 
         pub open_told : OpensAt along limits flags v (table_of table) (Ok o) → OpensDescriptor outcome limits v table (Ok opening)
         open_told told = over o.changing told

@@ -11,7 +11,7 @@ use Rattle.model.specs.declared.limits.TheConstants.{OPEN_FILES}
 use Rattle.model.specs.declared.reply.Reply.{Reply}
 use Rattle.model.specs.declared.reply.Reply.TheVariants.{Fd, Opened, Refused}
 use Rattle.paths.specs.Numbers.{IsInodeNumber}
-use Rattle.calls.specs.Changing.{said_by}
+use Rattle.calls.specs.Changing.{change_by}
 use Rattle.calls.specs.declared.changed.Changing.{Changing}
 use Rattle.descriptors.specs.Files.{KeepsBounds, description_of}
 use Rattle.descriptors.specs.Fits.{IsFileOf}
@@ -47,10 +47,10 @@ IsOpenedOver outcome v table o need =
 abbrev pub OpensDescriptorOver : (Bool → Outcome) → Limits → Volume → Descriptors → Opening → Option Changing → Type 0
 OpensDescriptorOver outcome limits v table o None = IsFileOf v o.file × IsOpenedOver outcome v table o nothing
 OpensDescriptorOver outcome limits v table o (Some c) =
-    Applies limits v (said_by c.change)
-    × IsMounted (swept (table_of table) (applied (said_by c.change) v)) (table_of table)
-    × IsFileOf (swept (table_of table) (applied (said_by c.change) v)) o.file
-    × IsOpenedOver outcome (swept (table_of table) (applied (said_by c.change) v)) table o (logs (work_of v (said_by c.change)))
+    Applies limits v (change_by c)
+    × IsMounted (swept (table_of table) (applied (change_by c) v)) (table_of table)
+    × IsFileOf (swept (table_of table) (applied (change_by c) v)) o.file
+    × IsOpenedOver outcome (swept (table_of table) (applied (change_by c) v)) table o (logs (work_of v (change_by c)))
 
 -- what opening comes to, whether the file is told of or not: a refusal, or a file at a descriptor
 abbrev pub OpensDescriptor : (Bool → Outcome) → Limits → Volume → Descriptors → Result Opening Errno → Type 0

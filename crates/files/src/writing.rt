@@ -2,6 +2,7 @@
 
 ghost use Rattle.std.specs.Prelude.{◌≡◌, ◌||◌, ◌≤◌, ◌^◌, IfErr, IfOk, IsTrue, length};
 ghost use Rattle.layout.specs.StateLimits.{limits_of};
+ghost use Rattle.model.specs.Attributes.{KeepsTime};
 ghost use Rattle.model.specs.Descriptors.{is_writing, writes, writes_to};
 ghost use Rattle.model.specs.Reading.{is_negative, is_too_many};
 ghost use Rattle.model.specs.declared.limits.TheConstants.{TRANSFER_BYTES};
@@ -20,7 +21,7 @@ use buffers::Blocks;
 use descriptors::{Descriptors, OpenFile};
 use inofile::InodeFile;
 use layout::InodeNumber;
-use model::{Access, Errno, TRANSFER_BYTES};
+use model::{Access, Errno, TRANSFER_BYTES, Time};
 use records::{Failure, write_bytes};
 use std::alloc::Global;
 
@@ -33,18 +34,20 @@ pub fn prepare_write<B: Blocks>(
     alloc: Global,
     inodes: &mut InodeFile,
     blocks: &mut B,
+    now: Option<Time>,
     table: &Descriptors,
     fd: u32,
     bytes: &[u8],
 ) -> Result<Option<Writing>, Failure>
-    ensures { PreparesOpen (of_writing bytes.now) (IsWrite table.now fd bytes.now) B.Blocks blocks.old
-        blocks.new inodes.old inodes.new table.now
-        (λ v. WritesFile (writes (limits_of inodes.old.geometry) (tree_with table.now v) fd
-        bytes.now) (limits_of inodes.old.geometry) v
+    requires now { KeepsTime (limits_of inodes.old.geometry).has_attributes now }
+    ensures { PreparesOpen (of_writing now bytes.now) (IsWrite table.now fd bytes.now) now B.Blocks
+        blocks.old blocks.new inodes.old inodes.new table.now
+        (λ v. WritesFile (writes (limits_of inodes.old.geometry) now (tree_with table.now v) fd
+        bytes.now) (limits_of inodes.old.geometry) now v
         table.now bytes.now (λ w. moved_to fd w.behind (table_of table.now))) result }
 {
     let file = file_to_write(table, fd, bytes.len() > TRANSFER_BYTES)?;
-    write_file(alloc, inodes, blocks, &file, place_of(&file), bytes)
+    write_file(alloc, inodes, blocks, now, &file, place_of(&file), bytes)
 }
 
 /// Prepares that bytes are written at an offset, whatever the descriptor's own; none where there
@@ -52,23 +55,34 @@ pub fn prepare_write<B: Blocks>(
 /// for writing, EINVAL where the offset is negative or one call doesn't write so many, EFBIG where
 /// the file would be too great. NoMemory; Device where a read failed; Damaged where a block on the
 /// way is outside its format.
+#[allow(clippy::too_many_arguments)]
 pub fn prepare_pwrite<B: Blocks>(
     alloc: Global,
     inodes: &mut InodeFile,
     blocks: &mut B,
+    now: Option<Time>,
     table: &Descriptors,
     fd: u32,
     offset: i64,
     bytes: &[u8],
 ) -> Result<Option<Writing>, Failure>
-    ensures { PreparesOpen (of_writing bytes.now) (IsWrite table.now fd bytes.now) B.Blocks blocks.old
-        blocks.new inodes.old inodes.new table.now
-        (λ v. WritesFile (writes_to (limits_of inodes.old.geometry) (tree_with table.now v) fd
-        offset bytes.now) (limits_of inodes.old.geometry) v table.now bytes.now (λ _. table_of
+    requires now { KeepsTime (limits_of inodes.old.geometry).has_attributes now }
+    ensures { PreparesOpen (of_writing now bytes.now) (IsWrite table.now fd bytes.now) now B.Blocks
+        blocks.old blocks.new inodes.old inodes.new table.now
+        (λ v. WritesFile (writes_to (limits_of inodes.old.geometry) now (tree_with table.now v) fd
+        offset bytes.now) (limits_of inodes.old.geometry) now v table.now bytes.now (λ _. table_of
         table.now)) result }
 {
     let file = file_to_write(table, fd, is_no_range(offset, bytes))?;
-    write_file(alloc, inodes, blocks, &file, offset.unsigned_abs(), bytes)
+    write_file(
+        alloc,
+        inodes,
+        blocks,
+        now,
+        &file,
+        offset.unsigned_abs(),
+        bytes,
+    )
 }
 
 // Whether nothing is written at such an offset, or these are too many bytes.
@@ -119,20 +133,22 @@ fn write_file<B: Blocks>(
     alloc: Global,
     inodes: &mut InodeFile,
     blocks: &mut B,
+    now: Option<Time>,
     file: &OpenFile,
     offset: u64,
     bytes: &[u8],
 ) -> Result<Option<Writing>, Failure>
+    requires now { KeepsTime (limits_of inodes.old.geometry).has_attributes now }
     requires few { length bytes.now ≤ TRANSFER_BYTES }
     requires bounds { KeepsBounds file.now }
     requires within { offset ≤ 2 ^ 63 }
-    ensures { PreparesTold (of_writing bytes.now) (IsTransfer bytes.now) B.Blocks blocks.old
-        blocks.new inodes.old inodes.new (λ r. OnMounted B.Blocks blocks.old inodes.old (λ v table.
-        IsFileOf v file.now → IfOk r (PutsFile (limits_of inodes.old.geometry) v table file.now
-        offset bytes.now))) result }
+    ensures { PreparesTold (of_writing now bytes.now) (IsTransfer bytes.now) now B.Blocks
+        blocks.old blocks.new inodes.old inodes.new (λ r. OnMounted B.Blocks blocks.old inodes.old
+        (λ v table. IsFileOf v file.now → IfOk r (PutsFile (limits_of inodes.old.geometry) now v
+        table file.now offset bytes.now))) result }
 {
     let number = InodeNumber::new(file.number);
-    let planned = write_bytes(alloc, inodes, blocks, number, offset, bytes)?;
+    let planned = write_bytes(alloc, inodes, blocks, now, number, offset, bytes)?;
     let Some(prepared) = planned else {
         return Ok(None);
     };

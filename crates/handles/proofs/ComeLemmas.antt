@@ -10,12 +10,16 @@ use Rattle.model.specs.declared.reply.Reply.{Reply}
 use Rattle.model.specs.declared.reply.Reply.TheVariants as reply
 use Rattle.model.specs.Paths.{Name, Path, Tests, first_refusal, behind, is_empty, parts_behind, path_eq, start_number}
 use Rattle.model.specs.Trees.{Tree, Object, directory, symlink, file, Description, IsUsed, number_of_object}
-use Rattle.model.specs.Edits.{contents, resized, relocate, with_object, without_object, with_bytes, with_descriptor, moved, IsSwept}
+use Rattle.model.specs.Edits.{contents, marked, resized, relocate, with_object, without_object, with_bytes, with_descriptor, moved, IsSwept}
+use Rattle.model.specs.Touches.{Touches, touches_object}
+use Rattle.model.specs.declared.attributes.Touch.TheVariants.{Data}
+use Rattle.model.specs.declared.time.Time.{Time}
 use Rattle.model.specs.Resolution.{Resolution, named, missing, refused, resolve}
 use Rattle.model.specs.Room.{Need}
 use Rattle.model.specs.Outcomes.{Outcome, answers, refuses, changes, changes_swept, tested, either, leads, leads_from, goes_along, goes_to, with_number, with_names, with_place, IsFresh, with_fresh, with_links, described}
 use Rattle.model.specs.Changing as changing
 use Rattle.model.specs.Descriptors as descriptors
+use Rattle.model.proofs.MarkLemmas.{marked_used}
 use Rattle.model.proofs.OptionLaws.{none_some, some_same}
 
 -- a tree with the same objects and descriptors uses the same numbers
@@ -80,9 +84,14 @@ module _ (t : Tree) (Given : ℕ → Type 0) where
   pub come_moved_offset : (u : Tree) (fd : ℕ) (f : Description) (offset : ℕ) → AllCome u → t.descriptors fd ≡ Some f → AllCome (descriptors.with_offset fd f offset u)
   come_moved_offset u fd f offset comes at_fd = come_opened u fd (Some (record f { offset = offset })) comes (λ g same. subst (λ x. Comes x.number) (some_same same) (was_open fd f at_fd))
 
-  pub come_resized : (n size : ℕ) → AllCome (changing.truncated_to n size t)
-  come_resized n size =
-      cond_both (size == length (contents t n)) t (with_bytes n (resized size (contents t n)) t) AllCome (λ e. come_same) (λ e. come_same)
+  -- a tree whose objects are touched uses the same numbers
+  pub come_marked : (now : Option Time) (touches : Touches) (u : Tree) → AllCome u → AllCome (marked now touches u)
+  come_marked now touches u comes n used = comes n (marked_used now touches u n used)
+
+  pub come_resized : (now : Option Time) (n size : ℕ) → AllCome (changing.truncated_to now n size t)
+  come_resized now n size =
+      cond_both (changing.is_idle_size now n size t) t (marked now (touches_object Data n) (with_bytes n (resized size (contents t n)) t)) AllCome (λ e. come_same)
+      (λ e. come_marked now (touches_object Data n) (with_bytes n (resized size (contents t n)) t) come_same)
 
   -- the steps of a call
 

@@ -1,4 +1,5 @@
 -- None of the nine faults stands in images that open.
+use Rattle.layout.specs.Trees.{has_attributes}
 use Rattle.std.proofs.Common.{◌≡◌, ◌≢◌, ◌⊎◌, inl, inr, ℕ, zero, suc, ◌/◌, ◌≤◌, ◌<◌, ◌^◌, All, List, [], ◌∷◌, Option, Some, None, IsSome, is_some, refl, ap, sym, subst, ◌∙◌, arith}
 use Rattle.std.proofs.lemmas.Bool.{cases_eq, cases_lt, false≢true}
 use Rattle.std.proofs.lemmas.List.Elements.{All-head, All-tail}
@@ -9,8 +10,8 @@ use Rattle.layout.specs.Limits.{Sizes}
 use Rattle.layout.specs.Places.{Blocks, blocks_of}
 use Rattle.layout.specs.Record.{IsChange}
 use Rattle.model.specs.Counting.{Counts}
-use Rattle.model.specs.Records.{Applies, CanRename, CanReplace, Change, Replays, applied, change_mode, create, set_file, truncate, link, rename, remove_name, write}
-use Rattle.model.proofs.MoveLemmas.{records_keep_volumes}
+use Rattle.model.specs.Records.{CanEdit, CanRename, CanReplace, Change, Edit, Replays, applied, change_mode, create, set_file, truncate, link, rename, remove_name, write}
+use Rattle.model.proofs.MarkLemmas.{records_keep_volumes}
 use Rattle.model.proofs.CountLemmas.{one_less, same_count}
 use Rattle.model.proofs.ListingLemmas.{names_apart}
 use Rattle.model.proofs.OptionLaws.{absent, none_some}
@@ -23,6 +24,7 @@ use Rattle.layout.specs.declared.kind.Kind.{Kind}
 use Rattle.layout.specs.declared.kind.Kind.TheVariants.{Free}
 use Rattle.layout.specs.declared.pointer.Pointer.TheVariants.{Block}
 use Rattle.layout.specs.declared.root.Root.{Root}
+use Rattle.layout.specs.declared.trees.Layout.{Layout}
 use Rattle.layout.proofs.OpenLaws.{newest_once}
 use Rattle.model.specs.Paths.{Name}
 use Rattle.model.specs.States.{State}
@@ -174,7 +176,7 @@ module _ (limits : Limits) (v : Volume) (volume : IsVolume limits v) (d : ℕ) (
         ]
       ]
 
-leaves_place : (limits : Limits) (v : Volume) (change : Change) → IsVolume limits v → Applies limits v change → LeavesPlace limits v change
+leaves_place : (limits : Limits) (v : Volume) (edit : Edit) → IsVolume limits v → CanEdit limits v edit → LeavesPlace limits v edit
 leaves_place limits v (create number parent made name) volume can = tt
 leaves_place limits v (link number parent name) volume can = tt
 leaves_place limits v (remove_name parent name) volume can = tt
@@ -185,12 +187,16 @@ leaves_place limits v (change_mode number mode) volume can = tt
 leaves_place limits v (set_file number mode size) volume can = tt
 
 -- over a volume no limit is passed, and over that of its lowest bytes all that is changed in part can be read
-within : (limits : Limits) (changes : List Change) (v w : Volume) → All IsChange changes → IsVolume limits v → Replays limits v changes w → ReplaysWithin limits (low v) changes (low w)
-within limits [] v w are volume replays = ap low replays
-within limits (change ∷ changes) v w are volume replays = (
-  record { can = low_applies v limits change replays.0; place = low_place v limits change (leaves_place limits v change volume replays.0); reads = low_reads v change },
-  subst (λ (x : Volume). ReplaysWithin limits x changes (low w)) (low_applied change v (All-head IsChange change changes are))
-      (within limits changes (applied change v) w (All-tail IsChange change changes are) (records_keep_volumes limits v change volume replays.0) replays.1),
+within : (limits : Limits) (layout : Layout) (changes : List Change) (v w : Volume) → All (IsChange (has_attributes layout)) changes → IsVolume limits v → Replays limits v changes w → ReplaysWithin limits (low v) changes (low w)
+within limits layout [] v w are volume replays = ap low replays
+within limits layout (change ∷ changes) v w are volume replays = (
+  record {
+    can = low_applies v limits change replays.0;
+    place = low_place v limits change.edit (leaves_place limits v change.edit volume replays.0.edit);
+    reads = low_reads v change.edit;
+  },
+  subst (λ (x : Volume). ReplaysWithin limits x changes (low w)) (low_applied change v (All-head (IsChange (has_attributes layout)) change changes are).fields)
+      (within limits layout changes (applied change v) w (All-tail (IsChange (has_attributes layout)) change changes are) (records_keep_volumes limits v change volume replays.0) replays.1),
 )
 
 pub opens_faultless : (sectors : ℕ) (disk : ℕ → List ℕ) (nvram : List ℕ) (s : State) → (o : Opens sectors disk nvram s) → HasRoots o.root sectors disk nvram × IsFaultlessUnder o.root (whole (blocks_of disk) o.root) nvram o.changes
@@ -218,7 +224,7 @@ opens_faultless sectors disk nvram s o =
           last = low o.last;
           holds = low_holds (blocks_of disk) r o.first o.holds.sound.active.files o.holds.holds;
           log = o.log;
-          replays = within (limits_of r.geometry) o.changes o.first o.last o.log.are o.holds.volume o.replays;
+          replays = within (limits_of r.geometry) r.geometry.layout o.changes o.first o.last o.log.are o.holds.volume o.replays;
         };
       },
     )

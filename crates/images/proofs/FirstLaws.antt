@@ -1,4 +1,5 @@
 -- A root of an image that has nothing but an empty root directory holds just that.
+use Rattle.layout.specs.Trees.{has_attributes}
 use Rattle.std.proofs.Common.{◌≡◌, ◌≢◌, inl, inr, ◌↔◌, ℕ, zero, suc, ◌*◌, ◌<◌, ◌≤◌, List, [], None, refl, ap, sym, subst, ◌∙◌, arith}
 use Rattle.std.proofs.Math.Path.{fun_ext}
 use Rattle.std.proofs.lemmas.Bool.{cases_lt}
@@ -191,7 +192,7 @@ first_opens sectors disk nvram r newest size holds room log = record {
     snapshots = [];
     holds = holds;
     changes = [];
-    log = record { are = All-nil IsChange; log = log };
+    log = record { are = All-nil (IsChange (has_attributes r.geometry.layout)); log = log };
     room = room;
     last = root_alone_volume;
     replays = refl;

@@ -5,14 +5,18 @@ use Rattle.std.proofs.Math.Path.{fun_ext}
 use Rattle.std.proofs.lemmas.List.{map-append, take-map, drop-map, length-map}
 use Rattle.model.specs.declared.limits.Limits.{Limits}
 use Rattle.layout.specs.Bytes.{IsBytes}
-use Rattle.layout.specs.Record.{IsChange}
+use Rattle.layout.specs.Record.{FitsEditFields, FitsFields}
 use Rattle.model.specs.declared.attributes.Attributes.{Attributes}
 use Rattle.model.specs.Attributes.{set_mode}
 use Rattle.model.specs.Counting.{Counts}
 use Rattle.model.specs.Edits.{resized, written}
 use Rattle.model.specs.Paths.{Name}
-use Rattle.model.specs.Records.{Applies, CanReplace, Change, IsBelow, IsEmpty, Made, TakesName, applied, change_mode, create, truncate, directory, file, is_vacant, link, node_of, rename, set_file, symbolic_link, remove_name, with_bits, with_file_bytes, with_node_attributes, with_size, write}
+use Rattle.model.specs.Records.{Applies, CanEdit, CanReplace, Change, Edit, IsBelow, IsEmpty, Made, TakesName, applied, edited, marked_nodes, touches_of, change_mode, create, truncate, directory, file, is_vacant, link, node_of, rename, set_file, symbolic_link, remove_name, with_bits, with_file_bytes, with_node_attributes, with_size, write}
 use Rattle.model.specs.Volumes.{Entries, Node, Volume, directory_node, entries, file_node, is_directory_node, is_file_node, link_node, released, set_name, with_entry, with_name_less, with_name_more, with_node}
+use Rattle.model.specs.Touches.{Touches, touches_entry, touches_move}
+use Rattle.model.specs.declared.attributes.Touch.TheVariants.{Status}
+use Rattle.model.specs.declared.time.Time.{Time}
+use Rattle.model.proofs.MarkLemmas.{mark_at, marked_is}
 use Rattle.model.proofs.MoveLemmas.{bytes_by, bytes_names}
 use Rattle.images.specs.Replaying.{LeavesPlace, ReadsParts, bytes_of_node}
 
@@ -136,21 +140,43 @@ released_low (Some n) v = change_low with_name_less less n v
 entry_low : (d : ℕ) (x : Name) (to : Option ℕ) (v w : Volume) → low v ≡ w → low (with_entry d x to v) ≡ with_entry d x to w
 entry_low d x to v w same = change_low (set_name x to) (named x to) d v ∙ ap (λ (u : Volume). with_entry d x to u) same
 
-pub low_applied : (change : Change) (v : Volume) → IsChange change → low (applied change v) ≡ applied change (low v)
-low_applied (create number parent made name) v is =
+low_edited : (edit : Edit) (v : Volume) → FitsEditFields edit → low (edited edit v) ≡ edited edit (low v)
+low_edited (create number parent made name) v fits =
     entry_low parent name (Some number) _ _ (node_low number (Some (node_of made)) v ∙ ap (λ (o : Option Node). with_node number o (low v)) (made_low made))
-low_applied (link number parent name) v is = entry_low parent name (Some number) _ _ (change_low with_name_more more number v)
-low_applied (remove_name parent name) v is =
+low_edited (link number parent name) v fits = entry_low parent name (Some number) _ _ (change_low with_name_more more number v)
+low_edited (remove_name parent name) v fits =
     entry_low parent name None _ _ (released_low (entries v parent name) v ∙ ap (λ (e : Entries). released (e parent name) (low v)) (sym (low_entries v)))
-low_applied (rename d x k y) v is =
+low_edited (rename d x k y) v fits =
     entry_low k y (entries v d x) _ _ (entry_low d x None _ _ (released_low (entries v k y) v ∙ ap (λ (e : Entries). released (e k y) (low v)) (sym (low_entries v))))
     ∙ ap (λ (e : Entries). with_entry k y (e d x) (with_entry d x None (released (entries (low v) k y) (low v)))) (sym (low_entries v))
-low_applied (write number offset bytes) v is = change_low (with_file_bytes (written offset bytes)) (with_bytes (written offset bytes) (λ b. low_written offset bytes b is.fields.1)) number v
-low_applied (truncate number size) v is = change_low (with_file_bytes (resized size)) (with_bytes (resized size) (low_resized size)) number v
-low_applied (change_mode number mode) v is = change_low (with_node_attributes (set_mode mode)) (changed (set_mode mode)) number v
-low_applied (set_file number mode size) v is =
+low_edited (write number offset bytes) v fits = change_low (with_file_bytes (written offset bytes)) (with_bytes (written offset bytes) (λ b. low_written offset bytes b fits.1)) number v
+low_edited (truncate number size) v fits = change_low (with_file_bytes (resized size)) (with_bytes (resized size) (low_resized size)) number v
+low_edited (change_mode number mode) v fits = change_low (with_node_attributes (set_mode mode)) (changed (set_mode mode)) number v
+low_edited (set_file number mode size) v fits =
     change_low (with_node_attributes (set_mode mode)) (changed (set_mode mode)) number (with_size number size v)
     ∙ ap (with_bits number mode) (change_low (with_file_bytes (resized size)) (with_bytes (resized size) (low_resized size)) number v)
+
+-- and touches the same, at the same time
+low_marked : (time : Option Time) (touches : Touches) (v : Volume) → low (marked_nodes time touches v) ≡ marked_nodes time touches (low v)
+unfolding Commutes
+low_marked time touches v =
+    fun_ext {f = low (marked_nodes time touches v)} {g = marked_nodes time touches (low v)} (λ n.
+    ap low_node (marked_is time touches v n) ∙ changed (mark_at time touches n) (v n) ∙ sym (marked_is time touches (low v) n))
+
+low_touches : (edit : Edit) (v : Volume) → touches_of edit v ≡ touches_of edit (low v)
+low_touches (create number parent made name) v = refl
+low_touches (link number parent name) v = refl
+low_touches (remove_name parent name) v = ap (λ (e : Entries). touches_entry Status (e parent name) (Some parent)) (sym (low_entries v))
+low_touches (rename d x k y) v = ap (λ (e : Entries). touches_move (e d x) (e k y) (Some d) (Some k)) (sym (low_entries v))
+low_touches (write number offset bytes) v = refl
+low_touches (truncate number size) v = refl
+low_touches (change_mode number mode) v = refl
+low_touches (set_file number mode size) v = refl
+
+pub low_applied : (change : Change) (v : Volume) → FitsFields change → low (applied change v) ≡ applied change (low v)
+low_applied change v fits =
+    low_marked change.time (touches_of change.edit v) (edited change.edit v)
+    ∙ (λ i. marked_nodes change.time (low_touches change.edit v i) (low_edited change.edit v fits i))
 
 -- ---- a record that applies to the one applies to the other
 
@@ -189,14 +215,14 @@ module _ (v : Volume) where
   replaces limits d k y n None (inr t) = inr (takes limits k y t)
   replaces limits d k y n (Some m) (other, kinds, none) = (other, is_directory m ∙ kinds ∙ sym (is_directory n), empty m none)
 
-  pub low_applies : (limits : Limits) (change : Change) → Applies limits v change → Applies limits (low v) change
-  low_applies limits (create number parent made name) c =
+  low_can : (limits : Limits) (edit : Edit) → CanEdit limits v edit → CanEdit limits (low v) edit
+  low_can limits (create number parent made name) c =
       record { low = c.low; high = c.high; vacant = bytes_by is_vacant vacant_alike low_bytes (v number) ∙ c.vacant; takes = takes limits parent name c.takes; good = c.good }
-  low_applies limits (link number parent name) c =
+  low_can limits (link number parent name) c =
       record { attributes = c.attributes; links = c.links; bytes = low_bytes c.bytes; file = ap low_node c.file; few = c.few; takes = takes limits parent name c.takes }
-  low_applies limits (remove_name parent name) c =
+  low_can limits (remove_name parent name) c =
       record { number = c.number; there = by_entries (λ e. e parent name ≡ Some c.number) c.there; empty = empty c.number c.empty }
-  low_applies limits (rename d x k y) c = record {
+  low_can limits (rename d x k y) c = record {
     number = c.number;
     there = by_entries (λ e. e d x ≡ Some c.number) c.there;
     directory = is_directory k ∙ c.directory;
@@ -204,13 +230,16 @@ module _ (v : Volume) where
     outside = by_entries (λ e. ¬ IsBelow e c.number k) c.outside;
     replaces = by_entries (λ e. CanReplace limits (low v) d k y c.number (e k y)) (replaces limits d k y c.number (entries v k y) c.replaces);
   }
-  low_applies limits (write number offset bytes) can = (is_file number ∙ can.0, can.1, can.2, can.3)
-  low_applies limits (truncate number size) can = (is_file number ∙ can.0, can.1)
-  low_applies limits (set_file number mode size) can = (is_file number ∙ can.0, can.1, can.2)
-  low_applies limits (change_mode number mode) can =
+  low_can limits (write number offset bytes) can = (is_file number ∙ can.0, can.1, can.2, can.3)
+  low_can limits (truncate number size) can = (is_file number ∙ can.0, can.1)
+  low_can limits (set_file number mode size) can = (is_file number ∙ can.0, can.1, can.2)
+  low_can limits (change_mode number mode) can =
       (bytes_by (λ o. is_file_node o || is_directory_node o) (λ attributes links a b. refl) low_bytes (v number) ∙ can.0, can.1)
 
-  pub low_place : (limits : Limits) (change : Change) → LeavesPlace limits v change → LeavesPlace limits (low v) change
+  pub low_applies : (limits : Limits) (change : Change) → Applies limits v change → Applies limits (low v) change
+  low_applies limits change can = record { time = can.time; edit = low_can limits change.edit can.edit }
+
+  pub low_place : (limits : Limits) (edit : Edit) → LeavesPlace limits v edit → LeavesPlace limits (low v) edit
   low_place limits (create number parent made name) place = tt
   low_place limits (link number parent name) place = tt
   low_place limits (remove_name parent name) place = tt
@@ -227,7 +256,7 @@ module _ (v : Volume) where
   read (Some (file_node attributes links bytes)) k = low_byte bytes k
   read (Some (link_node attributes text)) k = omega arith
 
-  pub low_reads : (change : Change) → ReadsParts (low v) change
+  pub low_reads : (edit : Edit) → ReadsParts (low v) edit
   low_reads (create number parent made name) = tt
   low_reads (link number parent name) = tt
   low_reads (remove_name parent name) = tt

@@ -1,4 +1,5 @@
 -- No images open to two states.
+use Rattle.layout.specs.Trees.{has_attributes}
 use Rattle.std.proofs.Common.{◌≡◌, inl, inr, ℕ, ◌≤◌, ◌^◌, List, [], ◌∷◌, None, map, All, refl, ap, sym, subst, ◌∙◌, arith}
 use Rattle.std.proofs.lemmas.List.Elements.{All-head, All-tail}
 use Rattle.layout.specs.StateLimits.{limits_of}
@@ -10,6 +11,7 @@ use Rattle.layout.specs.Root.{IsRoot}
 use Rattle.layout.specs.SnapRoot.{Snapshot, snapshot_in}
 use Rattle.layout.specs.declared.TheConstants.{SLOT_A, SLOT_B}
 use Rattle.layout.specs.declared.root.Root.{Root}
+use Rattle.layout.specs.declared.trees.Layout.{Layout}
 use Rattle.layout.proofs.Formats.{some_is}
 use Rattle.layout.proofs.OpenLaws.{newest_once, log_once}
 use Rattle.layout.proofs.RecordLaws.{change_injective}
@@ -30,13 +32,13 @@ replays_once limits v [] w x one other = one ∙ sym other
 replays_once limits v (change ∷ changes) w x one other = replays_once limits (applied change v) changes w x one.1 other.1
 
 -- bodies spell one list of records
-changes_once : (changes others : List Change) → All IsChange changes → All IsChange others → map change_bytes changes ≡ map change_bytes others → changes ≡ others
-changes_once [] [] are are_too same = refl
-changes_once [] (d ∷ ds) are are_too same = absurd (cc)
-changes_once (c ∷ cs) [] are are_too same = absurd (cc)
-changes_once (c ∷ cs) (d ∷ ds) are are_too same =
-    let first : c ≡ d = change_injective c d (All-head IsChange c cs are) (All-head IsChange d ds are_too) (head_is same) in
-    let rest = changes_once cs ds (All-tail IsChange c cs are) (All-tail IsChange d ds are_too) (tail_is same) in
+changes_once : (layout : Layout) (changes others : List Change) → All (IsChange (has_attributes layout)) changes → All (IsChange (has_attributes layout)) others → map change_bytes changes ≡ map change_bytes others → changes ≡ others
+changes_once layout [] [] are are_too same = refl
+changes_once layout [] (d ∷ ds) are are_too same = absurd (cc)
+changes_once layout (c ∷ cs) [] are are_too same = absurd (cc)
+changes_once layout (c ∷ cs) (d ∷ ds) are are_too same =
+    let first : c ≡ d = change_injective layout c d (All-head (IsChange (has_attributes layout)) c cs are) (All-head (IsChange (has_attributes layout)) d ds are_too) (head_is same) in
+    let rest = changes_once layout cs ds (All-tail (IsChange (has_attributes layout)) c cs are) (All-tail (IsChange (has_attributes layout)) d ds are_too) (tail_is same) in
     λ i. first i ∷ rest i
   where
     head_is : {x y : List ℕ} {xs ys : List (List ℕ)} → x ∷ xs ≡ y ∷ ys → x ≡ y
@@ -89,7 +91,7 @@ opens_once sectors disk nvram s t one two =
     let is_root = newest_is_root r (disk SLOT_A) (disk SLOT_B) one.newest in
     let limit : r.geometry.inodes ≤ 2 ^ 32 = omega (arith, is_root.head.sizes.most_inodes) in
     let log = subst (λ (r : Root). LogHoldsChanges r nvram two.changes) root two.log in
-    let changes : two.changes ≡ one.changes = changes_once two.changes one.changes log.are one.log.are
+    let changes : two.changes ≡ one.changes = changes_once r.geometry.layout two.changes one.changes log.are one.log.are
     (log_once r.geometry.half r.generation nvram _ _ log.log one.log.log) in
     let holds = subst (λ (r : Root). Holds r (whole (blocks_of disk) r) two.first two.snapshots) root two.holds in
     let first : two.first ≡ one.first = volume_once r.geometry.inodes (tree_contents w.active) two.first one.first limit holds.holds one.holds.holds in

@@ -1,4 +1,5 @@
 -- Which state a disk and an NVRAM open to.
+use Rattle.layout.specs.Trees.{has_attributes}
 use Rattle.std.specs.Prelude.{ℕ, ◌≡◌, ◌≢◌, ◌+◌, ◌*◌, ◌/◌, ◌≤◌, List, map, All, None}
 use Rattle.layout.specs.StateLimits.{fixed_of, limits_of}
 use Rattle.model.specs.declared.limits.Limits.{Limits}
@@ -42,7 +43,7 @@ pub record Holds (r : Root) (w : Whole) (v : Volume) (snapshots : List (Name × 
 -- The log holds these records, which a root doesn't cover: those of the next epoch, and then those
 -- of the one after it.
 pub record LogHoldsChanges (r : Root) (nvram : List ℕ) (changes : List Change) : Type 0 where
-  pub are : All IsChange changes
+  pub are : All (IsChange (has_attributes r.geometry.layout)) changes
   pub log : LogHolds r.geometry.half r.generation nvram (map change_bytes changes)
 
 -- as many blocks are free under a root as may be stored for these records over its volume, and what

@@ -1,15 +1,18 @@
 -- What an inode tells of attributes: what is read is spelled so, and what is spelled so is read.
-use Rattle.std.proofs.Common.{◌≡◌, ℕ, ◌^◌, ◌<◌, arith}
+use Rattle.std.proofs.Common.{◌≡◌, ℕ, ◌^◌, ◌<◌, List, ◌++◌, Some, refl, sym, subst, arith}
 use Rattle.std.specs.Prelude.{ℤ, FitsSigned}
-use Rattle.std.specs.Int.{cast_unsigned, w64}
+use Rattle.std.specs.Int.{cast_signed, cast_unsigned, w64}
+use Rattle.std.proofs.Math.Facts.{sfits_to_z}
 use mir.Facts.{Fits-of_z}
 use Rattle.std.proofs.lemmas.Int.{of_z-to_z, to_z-of_z}
 use Rattle.model.specs.Attributes.{AreAttributes, IsTime}
 use Rattle.model.specs.declared.attributes.Attributes.{Attributes}
 use Rattle.model.specs.declared.limits.TheConstants.{MOST_NANOSECONDS}
 use Rattle.model.specs.declared.time.Time.{Time}
-use Rattle.layout.specs.Attributes.{Others, attribute_fields, attributes_from, others_told, time_fields, time_of, time_told}
-use Rattle.layout.proofs.Formats.{IsExact, num_exact, ranged_exact, blank_exact, then_exact}
+use Rattle.layout.specs.Attributes.{Others, attribute_fields, attributes_from, others_told, time_fields, time_of, time_read, time_told}
+use Rattle.layout.specs.Bytes.{IsBytes}
+use Rattle.layout.specs.Reading.{◌>>=◌}
+use Rattle.layout.proofs.Formats.{Takes, IsExact, bind_some, some_is, num_exact, ranged_exact, blank_exact, then_exact}
 
 time_exact : IsExact time_fields
 time_exact = then_exact (num_exact 8) (ranged_exact 4 0 MOST_NANOSECONDS (omega arith))
@@ -30,6 +33,21 @@ unsigned_small z fits = let small : cast_unsigned w64 z < 2 ^ 64 = (Fits-of_z {w
 
 time_fits : (t : Time) → IsTime t → time_fields.Fits (time_told t)
 time_fits t is = (unsigned_small t.seconds is.seconds, (omega arith, is.nanoseconds))
+
+-- a time alone, in front of bytes
+pub time_read_again : (t : Time) (rest : List ℕ) → IsTime t → time_read (time_fields.text (time_told t) ++ rest) ≡ Some (t, rest)
+time_read_again t rest is = rw (time_exact.again (time_told t) rest (time_fits t is), time_again t is) refl
+
+seconds_fit : (n : ℕ) → n < 256 ^ 8 → FitsSigned w64 (cast_signed w64 n)
+seconds_fit n small = sfits_to_z {w = w64} (record { fits = omega (arith, small) })
+
+pub time_read_takes : (bytes : List ℕ) (x : Time × List ℕ) → IsBytes bytes → time_read bytes ≡ Some x → Takes bytes (time_fields.text (time_told x.0)) x.1 × IsTime x.0
+time_read_takes bytes x fits e =
+    let w = bind_some (time_fields.at bytes) (λ y. Some (time_of y.0, y.1)) x e in
+    let t = time_exact.takes bytes w.0 fits w.1 in
+    let is : IsTime (time_of w.0.0) = record { seconds = seconds_fit w.0.0.0 t.1.0; nanoseconds = t.1.1.1 } in
+    subst (λ (y : Time × List ℕ). Takes bytes (time_fields.text (time_told y.0)) y.1 × IsTime y.0) (some_is (time_of w.0.0, w.0.1) x w.2)
+    (subst (λ (v : ℕ × ℕ). Takes bytes (time_fields.text v) w.0.1) (sym (numbers_again w.0.0 t.1)) t.0, is)
 
 pub others_again : (mode : ℕ) (v : Others) → attribute_fields.Fits v → others_told (attributes_from mode v) ≡ v
 others_again mode v fits =

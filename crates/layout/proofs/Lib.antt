@@ -8,6 +8,7 @@ pub mod NumberLaws
 pub mod Formats
 pub mod RecordLaws
 pub mod RecordLengths
+pub mod TimeLaws
 pub mod WritingLaws
 pub mod LogLemmas
 pub mod WordLaws

@@ -1,16 +1,20 @@
 -- The body of a record of the log.
-use Rattle.std.specs.Prelude.{ℕ, ◌≤◌, ◌<◌, ◌^◌, List, [], ◌∷◌, ◌++◌, length}
+use Rattle.std.specs.Prelude.{ℕ, ◌≤◌, ◌<◌, ◌^◌, List, [], ◌∷◌, ◌++◌, length, Bool, true, false, Option, Some, None}
+use Rattle.layout.specs.Attributes.{time_fields, time_told}
 use Rattle.layout.specs.Bytes.{IsBytes}
 use Rattle.layout.specs.Format.{Format, num, counted, mode_bits, ◌▸◌}
+use Rattle.model.specs.Attributes.{IsTime}
 use Rattle.model.specs.Paths.{IsName}
-pub use Rattle.model.specs.Records.{Made, file, directory, symbolic_link, Change, create, link, remove_name, rename, write, truncate, change_mode, set_file}
+pub use Rattle.model.specs.Records.{Made, file, directory, symbolic_link, Change, stamped, Edit, create, link, remove_name, rename, write, truncate, change_mode, set_file}
 use Rattle.layout.specs.LinkText.{IsLinkText}
 use Rattle.layout.specs.declared.limits.TheConstants.{PATH_BYTES}
 use Rattle.model.specs.declared.limits.TheConstants.{LINK_MODE, MODE_BITS, TRANSFER_BYTES}
+use Rattle.model.specs.declared.time.Time.{Time}
+use Rattle.layout.specs.declared.record.Edit.{Edit as RecordEdit}
+use Rattle.layout.specs.declared.record.Edit.TheVariants as edits
 use Rattle.layout.specs.declared.record.NewObject.{NewObject}
 use Rattle.layout.specs.declared.record.NewObject.TheVariants as objects
 use Rattle.layout.specs.declared.record.Record.{Record}
-use Rattle.layout.specs.declared.record.Record.TheVariants as records
 
 -- the kind, the mode, and what stands behind the name
 abbrev pub kind_of_made : Made → ℕ
@@ -57,18 +61,38 @@ change_mode_fields = num 4 ▸ mode_bits  -- number, mode
 abbrev pub set_file_fields : Format (ℕ × (ℕ × ℕ))
 set_file_fields = num 4 ▸ mode_bits ▸ num 8  -- number, mode, size
 
--- the one spelling of each record: its op, and its fields
+-- what a record does: a number
+abbrev pub op_of : Edit → ℕ
+op_of (create number parent made name) = 1
+op_of (link number parent name) = 2
+op_of (remove_name parent name) = 3
+op_of (rename parent name new_parent new_name) = 4
+op_of (write number offset bytes) = 5
+op_of (truncate number size) = 6
+op_of (change_mode number mode) = 7
+op_of (set_file number mode size) = 8
+
+-- and the fields of it
+abbrev pub edit_bytes : Edit → List ℕ
+edit_bytes (create number parent made name) =
+    create_head.text (number, (parent, (kind_of_made made, (mode_of_made made, name)))) ++ text_bytes made
+edit_bytes (link number parent name) = link_fields.text (number, (parent, name))
+edit_bytes (remove_name parent name) = remove_name_fields.text (parent, name)
+edit_bytes (rename parent name new_parent new_name) =
+    rename_fields.text (parent, (name, (new_parent, new_name)))
+edit_bytes (write number offset bytes) = write_fields.text (number, (offset, bytes))
+edit_bytes (truncate number size) = truncate_fields.text (number, size)
+edit_bytes (change_mode number mode) = change_mode_fields.text (number, mode)
+edit_bytes (set_file number mode size) = set_file_fields.text (number, (mode, size))
+
+-- the time of a record, as an inode has times
+abbrev pub time_bytes : Option Time → List ℕ
+time_bytes None = []
+time_bytes (Some time) = time_fields.text (time_told time)
+
+-- the one spelling of each record: its op, its time where it has one, and its fields
 abbrev pub change_bytes : Change → List ℕ
-change_bytes (create number parent made name) =
-    1 ∷ create_head.text (number, (parent, (kind_of_made made, (mode_of_made made, name)))) ++ text_bytes made
-change_bytes (link number parent name) = 2 ∷ link_fields.text (number, (parent, name))
-change_bytes (remove_name parent name) = 3 ∷ remove_name_fields.text (parent, name)
-change_bytes (rename parent name new_parent new_name) =
-    4 ∷ rename_fields.text (parent, (name, (new_parent, new_name)))
-change_bytes (write number offset bytes) = 5 ∷ write_fields.text (number, (offset, bytes))
-change_bytes (truncate number size) = 6 ∷ truncate_fields.text (number, size)
-change_bytes (change_mode number mode) = 7 ∷ change_mode_fields.text (number, mode)
-change_bytes (set_file number mode size) = 8 ∷ set_file_fields.text (number, (mode, size))
+change_bytes c = op_of c.edit ∷ (time_bytes c.time ++ edit_bytes c.edit)
 
 -- the limits of what a record says
 abbrev pub KeepsMadeLimits : Made → Type 0
@@ -76,29 +100,43 @@ KeepsMadeLimits (file mode) = Unit {0}
 KeepsMadeLimits (directory mode) = Unit {0}
 KeepsMadeLimits (symbolic_link text) = IsLinkText PATH_BYTES text
 
+abbrev pub KeepsEditLimits : Edit → Type 0
+KeepsEditLimits (create number parent made name) = KeepsMadeLimits made × IsName name
+KeepsEditLimits (link number parent name) = IsName name
+KeepsEditLimits (remove_name parent name) = IsName name
+KeepsEditLimits (rename parent name new_parent new_name) = IsName name × IsName new_name
+KeepsEditLimits (write number offset bytes) = (1 ≤ length bytes) × (length bytes ≤ TRANSFER_BYTES)
+KeepsEditLimits (truncate number size) = Unit {0}
+KeepsEditLimits (change_mode number mode) = Unit {0}
+KeepsEditLimits (set_file number mode size) = Unit {0}
+
 abbrev pub KeepsLimits : Change → Type 0
-KeepsLimits (create number parent made name) = KeepsMadeLimits made × IsName name
-KeepsLimits (link number parent name) = IsName name
-KeepsLimits (remove_name parent name) = IsName name
-KeepsLimits (rename parent name new_parent new_name) = IsName name × IsName new_name
-KeepsLimits (write number offset bytes) = (1 ≤ length bytes) × (length bytes ≤ TRANSFER_BYTES)
-KeepsLimits (truncate number size) = Unit {0}
-KeepsLimits (change_mode number mode) = Unit {0}
-KeepsLimits (set_file number mode size) = Unit {0}
+KeepsLimits c = KeepsEditLimits c.edit
 
 -- each value fits its field
-abbrev pub FitsFields : Change → Type 0
-FitsFields (create number parent made name) = (number < 2 ^ 32) × (parent < 2 ^ 32) × (mode_of_made made ≤ MODE_BITS)
-FitsFields (link number parent name) = link_fields.Fits (number, (parent, name))
-FitsFields (remove_name parent name) = remove_name_fields.Fits (parent, name)
-FitsFields (rename parent name new_parent new_name) = rename_fields.Fits (parent, (name, (new_parent, new_name)))
-FitsFields (write number offset bytes) = write_fields.Fits (number, (offset, bytes)) × IsBytes bytes
-FitsFields (truncate number size) = truncate_fields.Fits (number, size)
-FitsFields (change_mode number mode) = change_mode_fields.Fits (number, mode)
-FitsFields (set_file number mode size) = set_file_fields.Fits (number, (mode, size))
+abbrev pub FitsEditFields : Edit → Type 0
+FitsEditFields (create number parent made name) = (number < 2 ^ 32) × (parent < 2 ^ 32) × (mode_of_made made ≤ MODE_BITS)
+FitsEditFields (link number parent name) = link_fields.Fits (number, (parent, name))
+FitsEditFields (remove_name parent name) = remove_name_fields.Fits (parent, name)
+FitsEditFields (rename parent name new_parent new_name) = rename_fields.Fits (parent, (name, (new_parent, new_name)))
+FitsEditFields (write number offset bytes) = write_fields.Fits (number, (offset, bytes)) × IsBytes bytes
+FitsEditFields (truncate number size) = truncate_fields.Fits (number, size)
+FitsEditFields (change_mode number mode) = change_mode_fields.Fits (number, mode)
+FitsEditFields (set_file number mode size) = set_file_fields.Fits (number, (mode, size))
 
--- what can stand in the log
-pub record IsChange (c : Change) : Type 0 where
+abbrev pub FitsFields : Change → Type 0
+FitsFields c = FitsEditFields c.edit
+
+-- a record has a time in an image whose inodes have times, and in no other
+abbrev pub FitsTime : Bool → Option Time → Type 0
+FitsTime false None = Unit {0}
+FitsTime false (Some time) = ⊥
+FitsTime true None = ⊥
+FitsTime true (Some time) = IsTime time
+
+-- what can stand in the log of an image whose objects have attributes, or the mode alone
+pub record IsChange (has_attributes : Bool) (c : Change) : Type 0 where
+  pub time : FitsTime has_attributes c.time
   pub limits : KeepsLimits c
   pub fields : FitsFields c
 
@@ -108,19 +146,22 @@ made_of (objects.File mode) = file mode
 made_of (objects.Directory mode) = directory mode
 made_of (objects.Link text) = symbolic_link text.now
 
+abbrev pub edit_of : RecordEdit → Edit
+edit_of (edits.Create number parent object name) = create number parent (made_of object) name.now
+edit_of (edits.Link number parent name) = link number parent name.now
+edit_of (edits.RemoveName parent name) = remove_name parent name.now
+edit_of (edits.Rename parent name new_parent new_name) = rename parent name.now new_parent new_name.now
+edit_of (edits.Write number offset bytes) = write number offset bytes.now
+edit_of (edits.Truncate number size) = truncate number size
+edit_of (edits.ChangeMode number mode) = change_mode number mode
+edit_of (edits.SetFile number mode size) = set_file number mode size
+
 abbrev pub change_of : Record → Change
-change_of (records.Create number parent object name) = create number parent (made_of object) name.now
-change_of (records.Link number parent name) = link number parent name.now
-change_of (records.RemoveName parent name) = remove_name parent name.now
-change_of (records.Rename parent name new_parent new_name) = rename parent name.now new_parent new_name.now
-change_of (records.Write number offset bytes) = write number offset bytes.now
-change_of (records.Truncate number size) = truncate number size
-change_of (records.ChangeMode number mode) = change_mode number mode
-change_of (records.SetFile number mode size) = set_file number mode size
+change_of r = stamped r.time (edit_of r.edit)
 
 -- the body of a record: its bytes in the log
 abbrev pub body_of : Record → List ℕ
-body_of change = change_bytes (change_of change)
+body_of r = change_bytes (change_of r)
 
 -- what stands behind the name of what a record makes
 abbrev pub text_of : NewObject → List ℕ

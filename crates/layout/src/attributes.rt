@@ -1,5 +1,5 @@
 //! What an inode tells of an object beside its kind, mode, links, size and body: 47 bytes, which are
-//! zeros where a file system keeps none of it.
+//! zeros where a file system keeps none of it; and a time of it alone, which a record has too.
 
 ghost use Rattle.std.specs.Prelude.{◌≡◌, ◌≤◌, ◌+◌, length};
 ghost use Rattle.std.specs.Option.{option_map};
@@ -38,8 +38,8 @@ pub(crate) fn attributes_at(bytes: &[u8], mode: u16) -> Option<(Attributes, &[u8
     Some((attributes, bytes))
 }
 
-// A time, and the bytes behind it.
-fn time_at(bytes: &[u8]) -> Option<(Time, &[u8])>
+/// A time, and the bytes behind it.
+pub(crate) fn time_at(bytes: &[u8]) -> Option<(Time, &[u8])>
     ensures { option_map (λ x. (x.0, x.1.now)) result ≡ time_read bytes.now }
 {
     let (seconds, bytes) = u64_at(bytes)?;
@@ -65,7 +65,8 @@ pub(crate) fn put_attributes(out: &mut [u8], at: usize, attributes: Attributes)
     put_zeros(out, at + 43, 4);
 }
 
-fn put_time(out: &mut [u8], at: usize, time: Time)
+/// Writes a time.
+pub(crate) fn put_time(out: &mut [u8], at: usize, time: Time)
     requires { at + 12 ≤ length out.old }
     ensures { Writes at (at + 12) (time_fields.text (time_told time)) out.old out.new }
 {

@@ -37,7 +37,8 @@ pub use inode::{Body, Inode};
 pub use kind::Kind;
 pub use limits::{
     DIRECTORY_NAMES, FILE_COST, FILE_NAMES, GREAT_FILE_COST, HEADROOM_BLOCKS, MODE_COST,
-    NAMES_COST, ORPHAN_COST, PATH_BYTES, POINT_COST, costs_of,
+    NAMES_COST, ORPHAN_COST, PATH_BYTES, POINT_COST, SUMMED_FILE_COST, SUMMED_HEADROOM_BLOCKS,
+    SUMMED_MODE_COST, SUMMED_NAMES_COST, costs_of,
 };
 pub use log::{
     CLOSED, EPOCH_AT, FIRST_GATE, Gate, HEADER_BYTES, HEADER_GATE, Header, LENGTH_BYTES, OPEN,
@@ -52,7 +53,7 @@ pub use name::{is_link_text, is_name};
 pub use numbers::{BlockNumber, Epoch, FIRST_GENERATION, Generation, InodeNumber, LAST_GENERATION};
 pub use pointer::Pointer;
 pub use reading::{part_at, u32_at, u64_at};
-pub use record::{NewObject, Record};
+pub use record::{Edit, NewObject, Record};
 pub use root::Root;
 pub use snap_root::SnapRoot;
 pub use trees::Layout;

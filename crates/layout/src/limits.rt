@@ -1,9 +1,11 @@
-//! What a file system may hold that stands in these formats: the numbers of versions 1 and 2.
+//! What a file system may hold that stands in these formats: the numbers of its versions.
 
 ghost use Rattle.std.specs.Prelude.{◌≡◌};
 ghost use Rattle.layout.specs.StateLimits.{costs_of, limits_of, limits_under};
 
-use crate::{Geometry, LEAST_BLOCKS, SINGLE_BYTES, SNAPSHOT_SLOTS, greatest_under, snapshot_slots};
+use crate::{
+    Geometry, LEAST_BLOCKS, Layout, SINGLE_BYTES, SNAPSHOT_SLOTS, greatest_under, snapshot_slots,
+};
 use model::{Costs, Limits};
 
 /// Greatest number of names of one file.
@@ -15,8 +17,13 @@ pub const DIRECTORY_NAMES: u32 = 65_536;
 /// Greatest length in bytes of a path, and of a symbolic link's text, which is one.
 pub const PATH_BYTES: u32 = 1023;
 
-/// What a record costs that changes names, in blocks.
+/// What a record costs that changes names, in blocks; where objects have times, one that takes a
+/// name away.
 pub const NAMES_COST: u32 = 24;
+
+/// Where objects have times, what one costs that adds a name. Beside the names it touches the
+/// inodes of both directories, of what moves and of what that replaces.
+pub const SUMMED_NAMES_COST: u32 = 48;
 
 /// What one costs that changes a file's size; and one that writes to a file, beside two for each
 /// block that it touches.
@@ -26,8 +33,15 @@ pub const FILE_COST: u32 = 6;
 /// two more for the third height over its blocks.
 pub const GREAT_FILE_COST: u32 = 8;
 
+/// The same where objects have times, of any size: an indirect block has half as many pointers, and
+/// what touches the file alone changes its inode too.
+pub const SUMMED_FILE_COST: u32 = 16;
+
 /// What one costs that changes a mode.
 pub const MODE_COST: u32 = 2;
+
+/// The same where objects have times.
+pub const SUMMED_MODE_COST: u32 = 4;
 
 /// What an orphan costs that the root has, a file that no directory names: it is taken away.
 pub const ORPHAN_COST: u32 = 4;
@@ -40,11 +54,15 @@ pub const POINT_COST: u32 = 4;
 /// away.
 pub const HEADROOM_BLOCKS: u32 = 16;
 
-/// What records and consistency points cost on a disk of so many blocks.
-pub fn costs_of(blocks: u32) -> Costs
-    ensures { result ≡ costs_of blocks }
+/// The same where objects have times.
+pub const SUMMED_HEADROOM_BLOCKS: u32 = 24;
+
+/// What records and consistency points cost in an image of this layout, on a disk of so many
+/// blocks.
+pub fn costs_of(layout: Layout, blocks: u32) -> Costs
+    ensures { result ≡ costs_of layout blocks }
 {
-    Costs {
+    let plain = Costs {
         adds_name: NAMES_COST,
         removes_name: NAMES_COST,
         file: FILE_COST,
@@ -54,6 +72,17 @@ pub fn costs_of(blocks: u32) -> Costs
         orphan: ORPHAN_COST,
         point: blocks.div_ceil(1024) + POINT_COST,
         headroom: HEADROOM_BLOCKS,
+    };
+    match layout {
+        Layout::Plain => plain,
+        Layout::Summed => Costs {
+            adds_name: SUMMED_NAMES_COST,
+            file: SUMMED_FILE_COST,
+            great_file: SUMMED_FILE_COST,
+            mode: SUMMED_MODE_COST,
+            headroom: SUMMED_HEADROOM_BLOCKS,
+            ..plain
+        },
     }
 }
 
@@ -71,7 +100,7 @@ impl Geometry {
             snapshots: SNAPSHOT_SLOTS as u32,
             least_blocks: LEAST_BLOCKS,
             has_attributes: self.layout().has_attributes(),
-            costs: costs_of(self.blocks()),
+            costs: costs_of(self.layout(), self.blocks()),
         }
     }
 

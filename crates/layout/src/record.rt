@@ -3,7 +3,7 @@
 ghost use Rattle.std.specs.Prelude.{◌<◌};
 
 use crate::InodeNumber;
-use model::Mode;
+use model::{Mode, Time};
 
 /// What a record makes.
 #[derive(Clone, Copy)]
@@ -14,9 +14,9 @@ pub enum NewObject<'a> {
     Link { text: &'a [u8] },
 }
 
-/// A record of the log.
+/// What a record of the log does.
 #[derive(Clone, Copy)]
-pub enum Record<'a> {
+pub enum Edit<'a> {
     /// Makes the object, with this name in the directory `parent`.
     Create {
         number: InodeNumber,
@@ -63,4 +63,12 @@ pub enum Record<'a> {
         mode: Mode,
         size: u64,
     },
+}
+
+/// A record of the log.
+#[derive(Clone, Copy)]
+pub struct Record<'a> {
+    /// The time of the call, where the image keeps times.
+    pub time: Option<Time>,
+    pub edit: Edit<'a>,
 }

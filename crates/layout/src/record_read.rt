@@ -1,47 +1,53 @@
 //! Records as they are read.
 
+ghost use Rattle.layout.specs.Trees.{has_attributes};
 ghost use Rattle.std.specs.Prelude.{◌≡◌, ◌↔◌, IsTrue, IfSome, IsSomeAnd};
 ghost use Rattle.std.specs.Option.{option_map};
-ghost use Rattle.layout.specs.Record.{Change, IsChange, KeepsLimits, KeepsMadeLimits, body_of, change_bytes, change_of, made_of};
-ghost use Rattle.layout.specs.RecordReading.{create_in, link_in, remove_name_in, rename_in, write_in, truncate_in, change_mode_in, set_file_in, made_in, change_in};
+ghost use Rattle.layout.specs.Record.{Change, IsChange, KeepsEditLimits, KeepsMadeLimits, body_of, change_bytes, change_of, edit_of, made_of};
+ghost use Rattle.layout.specs.RecordReading.{create_in, link_in, remove_name_in, rename_in, write_in, truncate_in, change_mode_in, set_file_in, made_in, edit_in, time_in, change_in};
 
-use crate::InodeNumber;
+use crate::attributes::time_at;
 use crate::name::{is_link_text, is_name};
 use crate::reading::{contents_at, mode_at, name_at, text_at, u8_at, u32_at, u64_at};
-use crate::record::{NewObject, Record};
-use model::{LINK_MODE, Mode, TRANSFER_BYTES};
+use crate::record::{Edit, NewObject, Record};
+use crate::{InodeNumber, Layout};
+use model::{LINK_MODE, Mode, TRANSFER_BYTES, Time};
 
 impl<'a> Record<'a> {
-    /// The record whose body these bytes are, all of them; None where no record has this body.
-    pub fn read(bytes: &'a [u8]) -> Option<Record<'a>>
-        ensures found { IfSome result (λ r. IsChange (change_of r) × (bytes.now ≡ body_of r)) }
-        ensures only { (c : Change) → IsChange c → bytes.now ≡ change_bytes c
+    /// The record of an image of this layout whose body these bytes are, all of them; None where no
+    /// record has this body.
+    pub fn read(layout: Layout, bytes: &'a [u8]) -> Option<Record<'a>>
+        ensures found { IfSome result
+            (λ r. IsChange (has_attributes layout) (change_of r) × (bytes.now ≡ body_of r)) }
+        ensures only { (c : Change) → IsChange (has_attributes layout) c → bytes.now ≡ change_bytes c
             → IsSomeAnd result (λ r. change_of r ≡ c) }
     {
-        let Some(record) = read_fields(bytes) else {
+        let Some(record) = read_record(layout, bytes) else {
             return None;
         };
-        if record.keeps_limits() {
+        if record.edit.keeps_limits() {
             Some(record)
         } else {
             None
         }
     }
+}
 
+impl Edit<'_> {
     // Whether its names, its text and its bytes are within their limits.
     fn keeps_limits(&self) -> bool
-        ensures { IsTrue result ↔ KeepsLimits (change_of self.now) }
+        ensures { IsTrue result ↔ KeepsEditLimits (edit_of self.now) }
     {
         match *self {
-            Record::Create {
+            Edit::Create {
                 ref object,
                 name,
                 ..
             } => object_keeps_limits(object) && is_name(name),
-            Record::Link { name, .. } | Record::RemoveName { name, .. } => is_name(name),
-            Record::Rename { name, new_name, .. } => is_name(name) && is_name(new_name),
-            Record::Write { bytes, .. } => !bytes.is_empty() && bytes.len() <= TRANSFER_BYTES,
-            Record::Truncate { .. } | Record::ChangeMode { .. } | Record::SetFile { .. } => true,
+            Edit::Link { name, .. } | Edit::RemoveName { name, .. } => is_name(name),
+            Edit::Rename { name, new_name, .. } => is_name(name) && is_name(new_name),
+            Edit::Write { bytes, .. } => !bytes.is_empty() && bytes.len() <= TRANSFER_BYTES,
+            Edit::Truncate { .. } | Edit::ChangeMode { .. } | Edit::SetFile { .. } => true,
         }
     }
 }
@@ -56,26 +62,55 @@ fn object_keeps_limits(object: &NewObject<'_>) -> bool
 }
 
 #[tactic(auto, unfolding(crate::specs::RecordReading::change_in))]
-fn read_fields(bytes: &[u8]) -> Option<Record<'_>>
-    ensures { option_map change_of result ≡ change_in bytes.now }
+fn read_record(layout: Layout, bytes: &[u8]) -> Option<Record<'_>>
+    ensures { option_map change_of result ≡ change_in layout bytes.now }
 {
-    let (op, fields) = u8_at(bytes)?;
+    let (op, bytes) = u8_at(bytes)?;
+    let Some((time, bytes)) = read_time(layout, bytes) else {
+        return None;
+    };
+    let Some(edit) = read_edit(op, bytes) else {
+        return None;
+    };
+    Some(Record { time, edit })
+}
+
+// The time that a record of this layout has, if any, and the bytes behind it.
+#[tactic(auto, unfolding(crate::specs::RecordReading::time_in))]
+fn read_time(layout: Layout, bytes: &[u8]) -> Option<(Option<Time>, &[u8])>
+    ensures { option_map (λ x. (x.0, x.1.now)) result ≡ time_in layout bytes.now }
+{
+    match layout {
+        Layout::Plain => Some((None, bytes)),
+        Layout::Summed => {
+            let Some((time, bytes)) = time_at(bytes) else {
+                return None;
+            };
+            Some((Some(time), bytes))
+        }
+    }
+}
+
+#[tactic(auto, unfolding(crate::specs::RecordReading::edit_in))]
+fn read_edit(op: u8, bytes: &[u8]) -> Option<Edit<'_>>
+    ensures { option_map edit_of result ≡ edit_in op bytes.now }
+{
     match op {
-        1 => read_create(fields),
-        2 => read_link(fields),
-        3 => read_remove_name(fields),
-        4 => read_rename(fields),
-        5 => read_write(fields),
-        6 => read_truncate(fields),
-        7 => read_change_mode(fields),
-        8 => read_set_file(fields),
+        1 => read_create(bytes),
+        2 => read_link(bytes),
+        3 => read_remove_name(bytes),
+        4 => read_rename(bytes),
+        5 => read_write(bytes),
+        6 => read_truncate(bytes),
+        7 => read_change_mode(bytes),
+        8 => read_set_file(bytes),
         _ => None,
     }
 }
 
 #[tactic(auto, unfolding(crate::specs::RecordReading::create_in))]
-fn read_create(bytes: &[u8]) -> Option<Record<'_>>
-    ensures { option_map change_of result ≡ create_in bytes.now }
+fn read_create(bytes: &[u8]) -> Option<Edit<'_>>
+    ensures { option_map edit_of result ≡ create_in bytes.now }
 {
     let (number, bytes) = u32_at(bytes)?;
     let (parent, bytes) = u32_at(bytes)?;
@@ -86,7 +121,7 @@ fn read_create(bytes: &[u8]) -> Option<Record<'_>>
     let Some(object) = read_object(kind, mode, bytes) else {
         return None;
     };
-    Some(Record::Create {
+    Some(Edit::Create {
         number: InodeNumber::new(number),
         parent: InodeNumber::new(parent),
         object,
@@ -115,8 +150,8 @@ fn read_object(kind: u8, mode: Mode, bytes: &[u8]) -> Option<NewObject<'_>>
 }
 
 #[tactic(auto, unfolding(crate::specs::RecordReading::link_in))]
-fn read_link(bytes: &[u8]) -> Option<Record<'_>>
-    ensures { option_map change_of result ≡ link_in bytes.now }
+fn read_link(bytes: &[u8]) -> Option<Edit<'_>>
+    ensures { option_map edit_of result ≡ link_in bytes.now }
 {
     let (number, bytes) = u32_at(bytes)?;
     let (parent, bytes) = u32_at(bytes)?;
@@ -124,7 +159,7 @@ fn read_link(bytes: &[u8]) -> Option<Record<'_>>
     if !bytes.is_empty() {
         return None;
     }
-    Some(Record::Link {
+    Some(Edit::Link {
         number: InodeNumber::new(number),
         parent: InodeNumber::new(parent),
         name,
@@ -132,23 +167,23 @@ fn read_link(bytes: &[u8]) -> Option<Record<'_>>
 }
 
 #[tactic(auto, unfolding(crate::specs::RecordReading::remove_name_in))]
-fn read_remove_name(bytes: &[u8]) -> Option<Record<'_>>
-    ensures { option_map change_of result ≡ remove_name_in bytes.now }
+fn read_remove_name(bytes: &[u8]) -> Option<Edit<'_>>
+    ensures { option_map edit_of result ≡ remove_name_in bytes.now }
 {
     let (parent, bytes) = u32_at(bytes)?;
     let (name, bytes) = name_at(bytes)?;
     if !bytes.is_empty() {
         return None;
     }
-    Some(Record::RemoveName {
+    Some(Edit::RemoveName {
         parent: InodeNumber::new(parent),
         name,
     })
 }
 
 #[tactic(auto, unfolding(crate::specs::RecordReading::rename_in))]
-fn read_rename(bytes: &[u8]) -> Option<Record<'_>>
-    ensures { option_map change_of result ≡ rename_in bytes.now }
+fn read_rename(bytes: &[u8]) -> Option<Edit<'_>>
+    ensures { option_map edit_of result ≡ rename_in bytes.now }
 {
     let (parent, bytes) = u32_at(bytes)?;
     let (name, bytes) = name_at(bytes)?;
@@ -157,7 +192,7 @@ fn read_rename(bytes: &[u8]) -> Option<Record<'_>>
     if !bytes.is_empty() {
         return None;
     }
-    Some(Record::Rename {
+    Some(Edit::Rename {
         parent: InodeNumber::new(parent),
         name,
         new_parent: InodeNumber::new(new_parent),
@@ -166,8 +201,8 @@ fn read_rename(bytes: &[u8]) -> Option<Record<'_>>
 }
 
 #[tactic(auto, unfolding(crate::specs::RecordReading::write_in))]
-fn read_write(bytes: &[u8]) -> Option<Record<'_>>
-    ensures { option_map change_of result ≡ write_in bytes.now }
+fn read_write(bytes: &[u8]) -> Option<Edit<'_>>
+    ensures { option_map edit_of result ≡ write_in bytes.now }
 {
     let (number, bytes) = u32_at(bytes)?;
     let (offset, bytes) = u64_at(bytes)?;
@@ -175,7 +210,7 @@ fn read_write(bytes: &[u8]) -> Option<Record<'_>>
     if !bytes.is_empty() {
         return None;
     }
-    Some(Record::Write {
+    Some(Edit::Write {
         number: InodeNumber::new(number),
         offset,
         bytes: contents,
@@ -183,38 +218,38 @@ fn read_write(bytes: &[u8]) -> Option<Record<'_>>
 }
 
 #[tactic(auto, unfolding(crate::specs::RecordReading::truncate_in))]
-fn read_truncate(bytes: &[u8]) -> Option<Record<'_>>
-    ensures { option_map change_of result ≡ truncate_in bytes.now }
+fn read_truncate(bytes: &[u8]) -> Option<Edit<'_>>
+    ensures { option_map edit_of result ≡ truncate_in bytes.now }
 {
     let (number, bytes) = u32_at(bytes)?;
     let (size, bytes) = u64_at(bytes)?;
     if !bytes.is_empty() {
         return None;
     }
-    Some(Record::Truncate {
+    Some(Edit::Truncate {
         number: InodeNumber::new(number),
         size,
     })
 }
 
 #[tactic(auto, unfolding(crate::specs::RecordReading::change_mode_in))]
-fn read_change_mode(bytes: &[u8]) -> Option<Record<'_>>
-    ensures { option_map change_of result ≡ change_mode_in bytes.now }
+fn read_change_mode(bytes: &[u8]) -> Option<Edit<'_>>
+    ensures { option_map edit_of result ≡ change_mode_in bytes.now }
 {
     let (number, bytes) = u32_at(bytes)?;
     let (bits, bytes) = mode_at(bytes)?;
     if !bytes.is_empty() {
         return None;
     }
-    Some(Record::ChangeMode {
+    Some(Edit::ChangeMode {
         number: InodeNumber::new(number),
         mode: Mode::new(bits).unwrap(),
     })
 }
 
 #[tactic(auto, unfolding(crate::specs::RecordReading::set_file_in))]
-fn read_set_file(bytes: &[u8]) -> Option<Record<'_>>
-    ensures { option_map change_of result ≡ set_file_in bytes.now }
+fn read_set_file(bytes: &[u8]) -> Option<Edit<'_>>
+    ensures { option_map edit_of result ≡ set_file_in bytes.now }
 {
     let (number, bytes) = u32_at(bytes)?;
     let (bits, bytes) = mode_at(bytes)?;
@@ -222,7 +257,7 @@ fn read_set_file(bytes: &[u8]) -> Option<Record<'_>>
     if !bytes.is_empty() {
         return None;
     }
-    Some(Record::SetFile {
+    Some(Edit::SetFile {
         number: InodeNumber::new(number),
         mode: Mode::new(bits).unwrap(),
         size,

@@ -3,12 +3,13 @@
 ghost use Rattle.std.specs.Prelude.{◌≡◌, ◌≤◌, ◌+◌, length};
 ghost use Rattle.model.specs.declared.limits.TheConstants.{NAME_BYTES, TRANSFER_BYTES};
 ghost use Rattle.layout.specs.Bytes.{Writes, little};
-ghost use Rattle.layout.specs.Record.{KeepsLimits, KeepsMadeLimits, change_bytes, change_of, create, link, remove_name, rename, write, truncate, change_mode, set_file, made_of, kind_of_made, mode_of_made, name_bytes, body_of, text_of};
+ghost use Rattle.layout.specs.Record.{KeepsEditLimits, KeepsLimits, KeepsMadeLimits, change_of, edit_bytes, edit_of, op_of, time_bytes, create, link, remove_name, rename, write, truncate, change_mode, set_file, made_of, kind_of_made, mode_of_made, name_bytes, body_of, text_of};
 
 use crate::InodeNumber;
-use crate::record::{NewObject, Record};
+use crate::attributes::put_time;
+use crate::record::{Edit, NewObject, Record};
 use crate::writing::{put_byte, put_bytes, put_u8, put_u16, put_u32, put_u64};
-use model::{LINK_MODE, Mode};
+use model::{LINK_MODE, Mode, Time};
 
 impl Record<'_> {
     /// How many bytes its body has.
@@ -16,16 +17,7 @@ impl Record<'_> {
         requires { KeepsLimits (change_of self.now) }
         ensures { result ≡ length (body_of self.now) }
     {
-        match self {
-            Record::Create { object, name, .. } => 13 + count_of(name) + object_len(object),
-            Record::Link { name, .. } => 10 + count_of(name),
-            Record::RemoveName { name, .. } => 6 + count_of(name),
-            Record::Rename { name, new_name, .. } => 11 + count_of(name) + count_of(new_name),
-            Record::Write { bytes, .. } => 17 + count_of(bytes),
-            Record::Truncate { .. } => 13,
-            Record::ChangeMode { .. } => 7,
-            Record::SetFile { .. } => 15,
-        }
+        1 + time_len(self.time) + self.edit.fields_len()
     }
 
     /// Writes the record's body, and answers how many bytes it has.
@@ -34,34 +26,101 @@ impl Record<'_> {
         requires room { length (body_of self.now) ≤ length out.old }
         ensures { Writes 0 result (body_of self.now) out.old out.new }
     {
+        put_byte(out, 0, self.edit.op());
+        put_call_time(out, 1, self.time);
+        self.edit.write_fields(out, 1 + time_len(self.time))
+    }
+}
+
+impl Edit<'_> {
+    fn op(&self) -> u8
+        ensures { result ≡ op_of (edit_of self.now) }
+    {
         match self {
-            Record::Create {
+            Edit::Create { .. } => 1,
+            Edit::Link { .. } => 2,
+            Edit::RemoveName { .. } => 3,
+            Edit::Rename { .. } => 4,
+            Edit::Write { .. } => 5,
+            Edit::Truncate { .. } => 6,
+            Edit::ChangeMode { .. } => 7,
+            Edit::SetFile { .. } => 8,
+        }
+    }
+
+    // How many bytes its fields have.
+    fn fields_len(&self) -> usize
+        requires { KeepsEditLimits (edit_of self.now) }
+        ensures value { result ≡ length (edit_bytes (edit_of self.now)) }
+        ensures short { result ≤ 65552 }
+    {
+        match self {
+            Edit::Create { object, name, .. } => 12 + count_of(name) + object_len(object),
+            Edit::Link { name, .. } => 9 + count_of(name),
+            Edit::RemoveName { name, .. } => 5 + count_of(name),
+            Edit::Rename { name, new_name, .. } => 10 + count_of(name) + count_of(new_name),
+            Edit::Write { bytes, .. } => 16 + count_of(bytes),
+            Edit::Truncate { .. } => 12,
+            Edit::ChangeMode { .. } => 6,
+            Edit::SetFile { .. } => 14,
+        }
+    }
+
+    // Writes its fields from a place on, and answers where they end.
+    fn write_fields(&self, out: &mut [u8], at: usize) -> usize
+        requires fits { KeepsEditLimits (edit_of self.now) }
+        requires room { at + length (edit_bytes (edit_of self.now)) ≤ length out.old }
+        ensures { Writes at result (edit_bytes (edit_of self.now)) out.old out.new }
+    {
+        match self {
+            Edit::Create {
                 number,
                 parent,
                 object,
                 name,
-            } => write_create(*number, *parent, object, name, out),
-            Record::Link {
+            } => write_create(out, at, *number, *parent, object, name),
+            Edit::Link {
                 number,
                 parent,
                 name,
-            } => write_link(*number, *parent, name, out),
-            Record::RemoveName { parent, name } => write_remove_name(*parent, name, out),
-            Record::Rename {
+            } => write_link(out, at, *number, *parent, name),
+            Edit::RemoveName { parent, name } => write_remove_name(out, at, *parent, name),
+            Edit::Rename {
                 parent,
                 name,
                 new_parent,
                 new_name,
-            } => write_rename(*parent, name, *new_parent, new_name, out),
-            Record::Write {
+            } => write_rename(out, at, *parent, name, *new_parent, new_name),
+            Edit::Write {
                 number,
                 offset,
                 bytes,
-            } => write_write(*number, *offset, bytes, out),
-            Record::Truncate { number, size } => write_truncate(*number, *size, out),
-            Record::ChangeMode { number, mode } => write_change_mode(*number, *mode, out),
-            Record::SetFile { number, mode, size } => write_set_file(*number, *mode, *size, out),
+            } => write_write(out, at, *number, *offset, bytes),
+            Edit::Truncate { number, size } => write_truncate(out, at, *number, *size),
+            Edit::ChangeMode { number, mode } => write_change_mode(out, at, *number, *mode),
+            Edit::SetFile { number, mode, size } => write_set_file(out, at, *number, *mode, *size),
         }
+    }
+}
+
+// How many bytes the time of a record has.
+fn time_len(time: Option<Time>) -> usize
+    ensures value { result ≡ length (time_bytes time) }
+    ensures short { result ≤ 12 }
+{
+    match time {
+        None => 0,
+        Some(_) => 12,
+    }
+}
+
+// The time of a record, if it has one, from a place on.
+fn put_call_time(out: &mut [u8], at: usize, time: Option<Time>)
+    requires { at + length (time_bytes time) ≤ length out.old }
+    ensures { Writes at (at + length (time_bytes time)) (time_bytes time) out.old out.new }
+{
+    if let Some(time) = time {
+        put_time(out, at, time);
     }
 }
 
@@ -120,27 +179,27 @@ fn put_name(out: &mut [u8], at: usize, name: &[u8])
 }
 
 fn write_create(
+    out: &mut [u8],
+    at: usize,
     number: InodeNumber,
     parent: InodeNumber,
     object: &NewObject<'_>,
     name: &[u8],
-    out: &mut [u8],
 ) -> usize
     requires object { KeepsMadeLimits (made_of object.now) }
     requires name { length name.now ≤ NAME_BYTES }
-    requires room { 13 + length name.now + length (text_of object.now) ≤ length out.old }
+    requires room { at + 12 + length name.now + length (text_of object.now) ≤ length out.old }
     ensures { let made = made_of object.now in
-        Writes 0 result (change_bytes (create number parent made name.now)) out.old out.new }
+        Writes at result (edit_bytes (create number parent made name.now)) out.old out.new }
 {
     let (kind, mode) = kind_and_mode(object);
-    put_byte(out, 0, 1);
-    put_number(out, 1, number);
-    put_number(out, 5, parent);
-    put_u8(out, 9, kind);
-    put_u16(out, 10, mode);
-    put_name(out, 12, name);
-    put_text(out, 13 + name.len(), object);
-    13 + name.len() + object_len(object)
+    put_number(out, at, number);
+    put_number(out, at + 4, parent);
+    put_u8(out, at + 8, kind);
+    put_u16(out, at + 9, mode);
+    put_name(out, at + 11, name);
+    put_text(out, at + 12 + name.len(), object);
+    at + 12 + name.len() + object_len(object)
 }
 
 // The text of a link behind its length, from a place on, and nothing for the others.
@@ -155,91 +214,91 @@ fn put_text(out: &mut [u8], at: usize, object: &NewObject<'_>)
     }
 }
 
-fn write_link(number: InodeNumber, parent: InodeNumber, name: &[u8], out: &mut [u8]) -> usize
+fn write_link(
+    out: &mut [u8],
+    at: usize,
+    number: InodeNumber,
+    parent: InodeNumber,
+    name: &[u8],
+) -> usize
     requires name { length name.now ≤ NAME_BYTES }
-    requires room { 10 + length name.now ≤ length out.old }
-    ensures { Writes 0 result (change_bytes (link number parent name.now)) out.old out.new }
+    requires room { at + 9 + length name.now ≤ length out.old }
+    ensures { Writes at result (edit_bytes (link number parent name.now)) out.old out.new }
 {
-    put_byte(out, 0, 2);
-    put_number(out, 1, number);
-    put_number(out, 5, parent);
-    put_name(out, 9, name);
-    10 + name.len()
+    put_number(out, at, number);
+    put_number(out, at + 4, parent);
+    put_name(out, at + 8, name);
+    at + 9 + name.len()
 }
 
-fn write_remove_name(parent: InodeNumber, name: &[u8], out: &mut [u8]) -> usize
+fn write_remove_name(out: &mut [u8], at: usize, parent: InodeNumber, name: &[u8]) -> usize
     requires name { length name.now ≤ NAME_BYTES }
-    requires room { 6 + length name.now ≤ length out.old }
-    ensures { Writes 0 result (change_bytes (remove_name parent name.now)) out.old out.new }
+    requires room { at + 5 + length name.now ≤ length out.old }
+    ensures { Writes at result (edit_bytes (remove_name parent name.now)) out.old out.new }
 {
-    put_byte(out, 0, 3);
-    put_number(out, 1, parent);
-    put_name(out, 5, name);
-    6 + name.len()
+    put_number(out, at, parent);
+    put_name(out, at + 4, name);
+    at + 5 + name.len()
 }
 
 fn write_rename(
+    out: &mut [u8],
+    at: usize,
     parent: InodeNumber,
     name: &[u8],
     new_parent: InodeNumber,
     new_name: &[u8],
-    out: &mut [u8],
 ) -> usize
     requires name { length name.now ≤ NAME_BYTES }
     requires new_name { length new_name.now ≤ NAME_BYTES }
-    requires room { 11 + length name.now + length new_name.now ≤ length out.old }
+    requires room { at + 10 + length name.now + length new_name.now ≤ length out.old }
     ensures { let said = rename parent name.now new_parent new_name.now in
-        Writes 0 result (change_bytes said) out.old out.new }
+        Writes at result (edit_bytes said) out.old out.new }
 {
-    put_byte(out, 0, 4);
-    put_number(out, 1, parent);
-    put_name(out, 5, name);
-    let next = 6 + name.len();
+    put_number(out, at, parent);
+    put_name(out, at + 4, name);
+    let next = at + 5 + name.len();
     put_number(out, next, new_parent);
     put_name(out, next + 4, new_name);
     next + 5 + new_name.len()
 }
 
-fn write_write(number: InodeNumber, offset: u64, bytes: &[u8], out: &mut [u8]) -> usize
+fn write_write(out: &mut [u8], at: usize, number: InodeNumber, offset: u64, bytes: &[u8]) -> usize
     requires fits { length bytes.now ≤ TRANSFER_BYTES }
-    requires room { 17 + length bytes.now ≤ length out.old }
-    ensures { Writes 0 result (change_bytes (write number offset bytes.now)) out.old out.new }
+    requires room { at + 16 + length bytes.now ≤ length out.old }
+    ensures { Writes at result (edit_bytes (write number offset bytes.now)) out.old out.new }
 {
-    put_byte(out, 0, 5);
-    put_number(out, 1, number);
-    put_u64(out, 5, offset);
-    put_u32(out, 13, bytes.len() as u32);
-    put_bytes(out, 17, bytes);
-    17 + bytes.len()
+    put_number(out, at, number);
+    put_u64(out, at + 4, offset);
+    put_u32(out, at + 12, bytes.len() as u32);
+    put_bytes(out, at + 16, bytes);
+    at + 16 + bytes.len()
 }
 
-fn write_truncate(number: InodeNumber, size: u64, out: &mut [u8]) -> usize
-    requires { 13 ≤ length out.old }
-    ensures { Writes 0 result (change_bytes (truncate number size)) out.old out.new }
+fn write_truncate(out: &mut [u8], at: usize, number: InodeNumber, size: u64) -> usize
+    requires { at + 12 ≤ length out.old }
+    ensures { Writes at result (edit_bytes (truncate number size)) out.old out.new }
 {
-    put_byte(out, 0, 6);
-    put_number(out, 1, number);
-    put_u64(out, 5, size);
-    13
+    put_number(out, at, number);
+    put_u64(out, at + 4, size);
+    at + 12
 }
 
-fn write_change_mode(number: InodeNumber, mode: Mode, out: &mut [u8]) -> usize
-    requires { 7 ≤ length out.old }
-    ensures { Writes 0 result (change_bytes (change_mode number mode)) out.old out.new }
+fn write_change_mode(out: &mut [u8], at: usize, number: InodeNumber, mode: Mode) -> usize
+    requires { at + 6 ≤ length out.old }
+    ensures { Writes at result (edit_bytes (change_mode number mode)) out.old out.new }
 {
-    put_byte(out, 0, 7);
-    put_number(out, 1, number);
-    put_mode(out, 5, mode);
-    7
+    put_number(out, at, number);
+    put_mode(out, at + 4, mode);
+    at + 6
 }
 
-fn write_set_file(number: InodeNumber, mode: Mode, size: u64, out: &mut [u8]) -> usize
-    requires { 15 ≤ length out.old }
-    ensures { Writes 0 result (change_bytes (set_file number mode size)) out.old out.new }
+fn write_set_file(out: &mut [u8], at: usize, number: InodeNumber, mode: Mode, size: u64) -> usize
+    requires { at + 14 ≤ length out.old }
+    ensures { Writes at result (edit_bytes (set_file number mode size)) out.old out.new }
 {
-    put_byte(out, 0, 8);
-    put_number(out, 1, number);
-    put_mode(out, 5, mode);
-    put_u64(out, 7, size);
-    15
+    put_number(out, at, number);
+    put_mode(out, at + 4, mode);
+    put_u64(out, at + 6, size);
+    at + 14
 }

@@ -1,14 +1,18 @@
 -- Attributes that keep to their limits, and whether two are the same.
-use Rattle.std.proofs.Common.{◌≡◌, ◌≢◌, ◌⊎◌, inl, inr, ℕ, ◌≤◌, Bool, refl, ap, arith, lit≤}
+use Rattle.std.proofs.Common.{◌≡◌, ◌≢◌, ◌⊎◌, inl, inr, ℕ, ◌≤◌, Bool, Some, refl, sym, ap, ◌∙◌, arith}
 use Rattle.std.specs.Prelude.{ℤ, pos, negsuc}
 use borrow.Author.Differences.{fits_in}
-use Rattle.model.specs.Attributes.{AreAttributes, FitAttributes, IsTime, epoch, new_attributes, set_mode}
+use Rattle.std.proofs.lemmas.Bool.{false≢true}
+use Rattle.model.specs.Attributes.{AreAttributes, FitAttributes, IsTime, KeepsTime, epoch, new_attributes, set_mode}
+use Rattle.model.specs.Touches.{touched_at}
+use Rattle.model.specs.declared.attributes.Touch.{Touch}
+use Rattle.model.specs.declared.attributes.Touch.TheVariants.{Data, Status}
 use Rattle.model.specs.declared.attributes.Attributes.{Attributes}
 use Rattle.model.specs.declared.time.Time.{Time}
 use Rattle.model.specs.declared.limits.TheConstants.{MODE_BITS}
 use Rattle.model.proofs.CountLemmas.{number_apart}
 
-epoch_is : IsTime epoch
+pub epoch_is : IsTime epoch
 epoch_is = record { seconds = omega (arith, fits_in); nanoseconds = omega arith }
 
 pub new_are : (mode : ℕ) → mode ≤ MODE_BITS → AreAttributes (new_attributes mode)
@@ -28,6 +32,17 @@ set_fit has_attributes mode a few good = record {
     generation = good.limits.generation;
   };
   only_mode = λ none. ap (set_mode mode) (good.only_mode none);
+}
+
+-- attributes that fit do so with another time, where the file system keeps times
+pub touched_fit : (has_attributes : Bool) (time : Time) (touch : Touch) (a : Attributes) → KeepsTime has_attributes (Some time) → FitAttributes has_attributes a → FitAttributes has_attributes (touched_at time touch a)
+touched_fit has_attributes time Data a keeps fit = record {
+  limits = record { mode = fit.limits.mode; owner = fit.limits.owner; group = fit.limits.group; modified = keeps.1; changed = keeps.1; generation = fit.limits.generation };
+  only_mode = λ none. absurd (false≢true (sym none ∙ keeps.0));
+}
+touched_fit has_attributes time Status a keeps fit = record {
+  limits = record { mode = fit.limits.mode; owner = fit.limits.owner; group = fit.limits.group; modified = fit.limits.modified; changed = keeps.1; generation = fit.limits.generation };
+  only_mode = λ none. absurd (false≢true (sym none ∙ keeps.0));
 }
 
 -- two facts that hold or not do so together or not

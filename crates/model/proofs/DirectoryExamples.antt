@@ -63,16 +63,16 @@ with_a = with_directory at_a 4 0o755 fresh
 pub with_a_is : Told with_a (at_a ∷ [] ∷ []) [] (4 ∷ 3 ∷ [])
 with_a_is = told_directory fresh_is at_a 4 0o755
 
-makes_a : makes_directory limits fresh (codes "/a") 0o755 reply.Done with_a (logs adds_name)
+makes_a : makes_directory limits None fresh (codes "/a") 0o755 reply.Done with_a (logs adds_name)
 makes_a = ([], listing_told fresh_is [] [] refl, (Some 4, fresh_told fresh_is limits 0 (lit≤ tt) refl refl, (refl, refl, refl)))
 
 lists_a : lists limits with_a (codes "/") (reply.Names (codes "a" ∷ [])) with_a nothing
 lists_a = (codes "a" ∷ [], listing_told with_a_is [] (codes "a" ∷ []) refl, (refl, refl, refl))
 
-makes_a_again : makes_directory limits with_a (codes "/a") 0o755 (reply.Refused EEXIST) with_a nothing
+makes_a_again : makes_directory limits None with_a (codes "/a") 0o755 (reply.Refused EEXIST) with_a nothing
 makes_a_again = (refl, refl, refl)
 
-a_name_of_255_bytes : makes_directory limits fresh (codes "/" ++ replicate 255 97) 0o755 reply.Done (with_directory (replicate 255 97 ∷ []) 4 0o755 fresh) (logs adds_name)
+a_name_of_255_bytes : makes_directory limits None fresh (codes "/" ++ replicate 255 97) 0o755 reply.Done (with_directory (replicate 255 97 ∷ []) 4 0o755 fresh) (logs adds_name)
 a_name_of_255_bytes = ([], listing_told fresh_is [] [] refl, (Some 4, fresh_told fresh_is limits 0 (lit≤ tt) refl refl, (refl, refl, refl)))
 
 -- `mkdir /d04` to `/d31`: the last takes the last number, and the next finds none
@@ -100,10 +100,10 @@ abbrev names_from : ℕ → ℕ → List Name
 names_from n zero = []
 names_from n (suc k) = numbered n ∷ names_from (n + 1) k
 
-the_last_number : makes_directory limits (many 27) (codes "/d31") 0o755 reply.Done (many 28) (logs adds_name)
+the_last_number : makes_directory limits None (many 27) (codes "/d31") 0o755 reply.Done (many 28) (logs adds_name)
 the_last_number = (names_from 4 27, listing_told (many_are 27) [] (names_from 4 27) refl, (Some 31, fresh_told (many_are 27) limits 27 (lit≤ tt) refl refl, (refl, refl, refl)))
 
-no_number_is_left : makes_directory limits (many 28) (codes "/d32") 0o755 (reply.Refused NONUMBER) (many 28) nothing
+no_number_is_left : makes_directory limits None (many 28) (codes "/d32") 0o755 (reply.Refused NONUMBER) (many 28) nothing
 no_number_is_left = (names_from 4 28, listing_told (many_are 28) [] (names_from 4 28) refl, (None, used_below (many 28) (many_paths 28) [] 28 refl, (refl, refl, refl)))
 
 -- `mkdir /a`, `mkdir /a/b`, `mkdir /c`, `rename /a /c`: `/a` replaces the empty directory, whose number is free again
@@ -117,7 +117,7 @@ three_are = told_directory (told_directory with_a_is at_a_b 5 0o755) at_c 6 0o75
 abbrev replaced : Tree
 replaced = dropped 6 (moved at_a at_c three)
 
-replaces : renames limits three false (codes "/a") (codes "/c") reply.Done replaced (logs adds_name)
+replaces : renames limits None three false (codes "/a") (codes "/c") reply.Done replaced (logs adds_name)
 replaces = ([], listing_told three_are at_c [] refl, (refl, swept_told (told_moved three_are at_a at_c) 6 refl refl, refl))
 
 abbrev replaced_paths : List Path
@@ -135,19 +135,19 @@ lists_what_moved = (codes "b" ∷ [], listing_told replaced_is at_c (codes "b" �
 abbrev with_e : Tree
 with_e = with_directory at_e 6 0o755 replaced
 
-number_again : makes_directory limits replaced (codes "/e") 0o755 reply.Done with_e (logs adds_name)
+number_again : makes_directory limits None replaced (codes "/e") 0o755 reply.Done with_e (logs adds_name)
 number_again = (codes "c" ∷ [], listing_told replaced_is [] (codes "c" ∷ []) refl, (Some 6, fresh_told replaced_is limits 2 (lit≤ tt) refl refl, (refl, refl, refl)))
 
 with_e_is : Told with_e (at_e ∷ replaced_paths) [] (6 ∷ 6 ∷ 5 ∷ 4 ∷ 3 ∷ [])
 with_e_is = told_directory replaced_is at_e 6 0o755
 
-onto_what_isn't_empty : renames limits with_e false (codes "/e") (codes "/c") (reply.Refused ENOTEMPTY) with_e nothing
+onto_what_isn't_empty : renames limits None with_e false (codes "/e") (codes "/c") (reply.Refused ENOTEMPTY) with_e nothing
 onto_what_isn't_empty = (codes "b" ∷ [], listing_told with_e_is at_c (codes "b" ∷ []) refl, (refl, refl, refl))
 
 abbrev with_l : Tree
 with_l = with_symlink at_l 7 (codes "c/../c/b") with_e
 
-makes_l : makes_symlink limits with_e (codes "c/../c/b") (codes "/l") reply.Done with_l (logs adds_name)
+makes_l : makes_symlink limits None with_e (codes "c/../c/b") (codes "/l") reply.Done with_l (logs adds_name)
 makes_l = (codes "c" ∷ codes "e" ∷ [], listing_told with_e_is [] (codes "c" ∷ codes "e" ∷ []) refl, (Some 7, fresh_told with_e_is limits 3 (lit≤ tt) refl refl, (refl, refl, refl)))
 
 with_l_is : Told with_l (at_l ∷ at_e ∷ replaced_paths) [] (7 ∷ 6 ∷ 6 ∷ 5 ∷ 4 ∷ 3 ∷ [])
@@ -156,7 +156,7 @@ with_l_is = told_symlink with_e_is at_l 7 (codes "c/../c/b")
 abbrev without_b : Tree
 without_b = dropped 5 (without_object at_c_b with_l)
 
-removes_b : removes_directory limits with_l (codes "/c/b") reply.Done without_b (logs removes_name)
+removes_b : removes_directory limits None with_l (codes "/c/b") reply.Done without_b (logs removes_name)
 removes_b = ([], listing_told with_l_is at_c_b [] refl, (refl, swept_told (told_object with_l_is at_c_b None) 5 refl refl, refl))
 
 the_link_dangles : stats limits without_b true (codes "/l") (reply.Refused ENOENT) without_b nothing
@@ -179,7 +179,7 @@ with_x = with_descriptor 0 (Some (written_by 5)) (with_file at_x 5 0o644 with_d)
 with_d_is : Told with_d (at_d ∷ [] ∷ []) [] (4 ∷ 3 ∷ [])
 with_d_is = told_directory fresh_is at_d 4 0o755
 
-opens_x : opens false 32 limits with_d (codes "/x") writing 0o644 (reply.Fd 0) with_x (logs adds_name)
+opens_x : opens false 32 limits None with_d (codes "/x") writing 0o644 (reply.Fd 0) with_x (logs adds_name)
 opens_x = (codes "d" ∷ [], listing_told with_d_is [] (codes "d" ∷ []) refl, (Some 5, fresh_told with_d_is limits 1 (lit≤ tt) refl refl, (refl, refl, refl)))
 
 with_x_is : Told with_x (at_x ∷ at_d ∷ [] ∷ []) (0 ∷ []) (5 ∷ 5 ∷ 4 ∷ 3 ∷ [])
@@ -188,7 +188,7 @@ with_x_is = told_descriptor (told_file with_d_is at_x 5 0o644) 0 (Some (written_
 abbrev with_y : Tree
 with_y = with_object at_y (file 5) with_x
 
-links_y : links limits with_x (codes "/x") (codes "/y") reply.Done with_y (logs adds_name)
+links_y : links limits None with_x (codes "/x") (codes "/y") reply.Done with_y (logs adds_name)
 links_y = (1, links_told with_x_is 5 (at_x ∷ []) refl refl refl, (codes "d" ∷ codes "x" ∷ [], listing_told with_x_is [] (codes "d" ∷ codes "x" ∷ []) refl, (refl, refl, refl)))
 
 with_y_is : Told with_y (at_y ∷ at_x ∷ at_d ∷ [] ∷ []) (0 ∷ []) (5 ∷ 5 ∷ 4 ∷ 3 ∷ [])
@@ -211,7 +211,7 @@ used_by n = record { number = n; offset = 0; reads = true; writes = true; append
 abbrev with_f : Tree
 with_f = with_descriptor 0 (Some (used_by 4)) (with_file at_f 4 0o644 fresh)
 
-opens_f : opens false 32 limits fresh (codes "/f") both_ways_new 0o644 (reply.Fd 0) with_f (logs adds_name)
+opens_f : opens false 32 limits None fresh (codes "/f") both_ways_new 0o644 (reply.Fd 0) with_f (logs adds_name)
 opens_f = ([], listing_told fresh_is [] [] refl, (Some 4, fresh_told fresh_is limits 0 (lit≤ tt) refl refl, (refl, refl, refl)))
 
 abbrev without_f : Tree
@@ -223,7 +223,7 @@ without_f_is = told_object (told_descriptor (told_file fresh_is at_f 4 0o644) 0 
 abbrev with_g : Tree
 with_g = with_descriptor 1 (Some (used_by 5)) (with_file at_g 5 0o644 without_f)
 
-opens_g : opens false 32 limits without_f (codes "/g") both_ways_new 0o644 (reply.Fd 1) with_g (logs adds_name)
+opens_g : opens false 32 limits None without_f (codes "/g") both_ways_new 0o644 (reply.Fd 1) with_g (logs adds_name)
 opens_g = ([], listing_told without_f_is [] [] refl, (Some 5, fresh_told without_f_is limits 1 (lit≤ tt) refl refl, (refl, refl, refl)))
 
 with_g_is : Told with_g (at_g ∷ at_f ∷ at_f ∷ [] ∷ []) (1 ∷ 0 ∷ []) (5 ∷ 5 ∷ 4 ∷ 4 ∷ 3 ∷ [])

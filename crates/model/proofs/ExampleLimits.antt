@@ -1,7 +1,7 @@
 -- The limits of the examples: 32 numbers, and a disk of 64 blocks.
 use Rattle.model.specs.declared.costs.Costs.{Costs}
 use Rattle.model.specs.declared.limits.Limits.{Limits}
-use Rattle.std.proofs.Common.{false}
+use Rattle.std.proofs.Common.{true, false}
 
 abbrev pub costs : Costs
 costs = record {
@@ -28,3 +28,7 @@ limits = record {
   has_attributes = false;
   costs = costs;
 }
+
+-- the same where a file system keeps times
+abbrev pub timed_limits : Limits
+timed_limits = record limits { has_attributes = true }

@@ -54,28 +54,28 @@ small =
 moved_with_it : ((moved (name_a ∷ []) (name_c ∷ []) small).objects (name_c ∷ name_b ∷ []) ≡ Some (directory 5)) × ((moved (name_a ∷ []) (name_c ∷ []) small).objects (name_a ∷ name_b ∷ []) ≡ None)
 moved_with_it = (refl, refl)
 
-below_itself : renames limits small false (codes "/a") (codes "/a/b/c") (reply.Refused EINVAL) small nothing
+below_itself : renames limits None small false (codes "/a") (codes "/a/b/c") (reply.Refused EINVAL) small nothing
 below_itself = (refl, refl, refl)
 
-onto_itself : renames limits small false (codes "/a") (codes "/a/../a") reply.Done small nothing
+onto_itself : renames limits None small false (codes "/a") (codes "/a/../a") reply.Done small nothing
 onto_itself = (refl, refl, refl)
 
-file_onto_directory : renames limits small false (codes "/f") (codes "/a/b") (reply.Refused EISDIR) small nothing
+file_onto_directory : renames limits None small false (codes "/f") (codes "/a/b") (reply.Refused EISDIR) small nothing
 file_onto_directory = (refl, refl, refl)
 
-directory_onto_file : renames limits small false (codes "/a") (codes "/f") (reply.Refused ENOTDIR) small nothing
+directory_onto_file : renames limits None small false (codes "/a") (codes "/f") (reply.Refused ENOTDIR) small nothing
 directory_onto_file = (refl, refl, refl)
 
-rename_of_root : renames limits small false (codes "/") (codes "/a") (reply.Refused EBUSY) small nothing
+rename_of_root : renames limits None small false (codes "/") (codes "/a") (reply.Refused EBUSY) small nothing
 rename_of_root = (refl, refl, refl)
 
-unlink_directory : unlinks limits small (codes "/a") (reply.Refused EPERM) small nothing
+unlink_directory : unlinks limits None small (codes "/a") (reply.Refused EPERM) small nothing
 unlink_directory = (refl, refl, refl)
 
-rmdir_of_file : removes_directory limits small (codes "/f") (reply.Refused ENOTDIR) small nothing
+rmdir_of_file : removes_directory limits None small (codes "/f") (reply.Refused ENOTDIR) small nothing
 rmdir_of_file = (refl, refl, refl)
 
-link_over_name : links limits small (codes "/f") (codes "/a") (reply.Refused EEXIST) small nothing
+link_over_name : links limits None small (codes "/f") (codes "/a") (reply.Refused EEXIST) small nothing
 link_over_name = (refl, refl, refl)
 
 -- bytes
@@ -98,32 +98,32 @@ reads_on = (refl, refl, refl)
 reads_from_start : reads_from small 0 (pos 0) 2 (reply.Data (97 ∷ 98 ∷ [])) small nothing
 reads_from_start = (refl, refl, refl)
 
-writes_nothing : writes limits small 0 [] (reply.Wrote 0) small nothing
+writes_nothing : writes limits None small 0 [] (reply.Wrote 0) small nothing
 writes_nothing = (refl, refl, refl)
 
-writes_on : writes limits small 0 (1 ∷ 2 ∷ []) (reply.Wrote 2) (with_descriptor 0 (Some (opened 4)) (with_bytes 6 (97 ∷ 98 ∷ 1 ∷ 2 ∷ []) small)) (logs (puts_bytes 3 2 2))
+writes_on : writes limits None small 0 (1 ∷ 2 ∷ []) (reply.Wrote 2) (with_descriptor 0 (Some (opened 4)) (with_bytes 6 (97 ∷ 98 ∷ 1 ∷ 2 ∷ []) small)) (logs (puts_bytes 3 2 2))
 writes_on = (refl, refl, refl)
 
 abbrev appends : Tree
 appends = with_descriptor 0 (Some (record (opened 0) { appends = true })) small
 
 -- under append: behind the last byte, wherever the offset is
-writes_behind : writes limits appends 0 (1 ∷ []) (reply.Wrote 1) (with_descriptor 0 (Some (record (opened 4) { appends = true })) (with_bytes 6 (97 ∷ 98 ∷ 99 ∷ 1 ∷ []) appends)) (logs (puts_bytes 3 3 1))
+writes_behind : writes limits None appends 0 (1 ∷ []) (reply.Wrote 1) (with_descriptor 0 (Some (record (opened 4) { appends = true })) (with_bytes 6 (97 ∷ 98 ∷ 99 ∷ 1 ∷ []) appends)) (logs (puts_bytes 3 3 1))
 writes_behind = (refl, refl, refl)
 
-too_far : writes_to limits small 0 (pos 68719476735) (0 ∷ 0 ∷ []) (reply.Refused EFBIG) small nothing
+too_far : writes_to limits None small 0 (pos 68719476735) (0 ∷ 0 ∷ []) (reply.Refused EFBIG) small nothing
 too_far = (refl, refl, refl)
 
-before_the_start : writes_to limits small 0 (negsuc 0) [] (reply.Refused EINVAL) small nothing
+before_the_start : writes_to limits None small 0 (negsuc 0) [] (reply.Refused EINVAL) small nothing
 before_the_start = (refl, refl, refl)
 
-truncates_to_two : truncates limits small (codes "/f") (pos 2) reply.Done (with_bytes 6 (97 ∷ 98 ∷ []) small) (logs (changes_size 3 2))
+truncates_to_two : truncates limits None small (codes "/f") (pos 2) reply.Done (with_bytes 6 (97 ∷ 98 ∷ []) small) (logs (changes_size 3 2))
 truncates_to_two = (refl, refl, refl)
 
-truncates_to_five : truncates_open limits small 0 (pos 5) reply.Done (with_bytes 6 (97 ∷ 98 ∷ 99 ∷ 0 ∷ 0 ∷ []) small) (logs (changes_size 3 5))
+truncates_to_five : truncates_open limits None small 0 (pos 5) reply.Done (with_bytes 6 (97 ∷ 98 ∷ 99 ∷ 0 ∷ 0 ∷ []) small) (logs (changes_size 3 5))
 truncates_to_five = (refl, refl, refl)
 
-truncates_to_same : truncates_open limits small 0 (pos 3) reply.Done small nothing
+truncates_to_same : truncates_open limits None small 0 (pos 3) reply.Done small nothing
 truncates_to_same = (refl, refl, refl)
 
 seeks_to_the_end : seeks small 0 whence.End (negsuc 0) (reply.At 2) (with_descriptor 0 (Some (opened 2)) small) nothing
@@ -142,19 +142,19 @@ abbrev plainly : Flags
 plainly = record { access = access.Both; creates = false; exclusive = false; truncates = false; appends = false }
 
 -- the lowest free descriptor
-opens_again : opens false 32 limits small (codes "/f") plainly 0o644 (reply.Fd 1) (with_descriptor 1 (Some (opened 0)) small) nothing
+opens_again : opens false 32 limits None small (codes "/f") plainly 0o644 (reply.Fd 1) (with_descriptor 1 (Some (opened 0)) small) nothing
 opens_again = (refl, refl, refl)
 
-opens_directory : opens false 32 limits small (codes "/a") plainly 0o644 (reply.Refused EISDIR) small nothing
+opens_directory : opens false 32 limits None small (codes "/a") plainly 0o644 (reply.Refused EISDIR) small nothing
 opens_directory = (refl, refl, refl)
 
-truncates_what_it_reads : opens false 32 limits small (codes "/x") (record plainly { access = access.Reading; truncates = true }) 0o644 (reply.Refused EINVAL) small nothing
+truncates_what_it_reads : opens false 32 limits None small (codes "/x") (record plainly { access = access.Reading; truncates = true }) 0o644 (reply.Refused EINVAL) small nothing
 truncates_what_it_reads = (refl, refl, refl)
 
-opens_exclusively : opens false 32 limits small (codes "/f") (record plainly { creates = true; exclusive = true }) 0o644 (reply.Refused EEXIST) small nothing
+opens_exclusively : opens false 32 limits None small (codes "/f") (record plainly { creates = true; exclusive = true }) 0o644 (reply.Refused EEXIST) small nothing
 opens_exclusively = (refl, refl, refl)
 
-opens_and_truncates : opens false 32 limits small (codes "/f") (record plainly { truncates = true }) 0o644 (reply.Fd 1) (with_descriptor 1 (Some (opened 0)) (with_bytes 6 [] small)) (logs (changes_size 3 0))
+opens_and_truncates : opens false 32 limits None small (codes "/f") (record plainly { truncates = true }) 0o644 (reply.Fd 1) (with_descriptor 1 (Some (opened 0)) (with_bytes 6 [] small)) (logs (changes_size 3 0))
 opens_and_truncates = (refl, refl, refl)
 
 abbrev full : Room
@@ -193,7 +193,7 @@ eight_links = refl
 nine_links : resolve (chain 9) true (codes "/" ++ replicate 9 120) ≡ refused ELOOP
 nine_links = refl
 
-chmod_of_nine : changes_mode limits (chain 9) (codes "/" ++ replicate 9 120) 0o700 (reply.Refused ELOOP) (chain 9) nothing
+chmod_of_nine : changes_mode limits None (chain 9) (codes "/" ++ replicate 9 120) 0o700 (reply.Refused ELOOP) (chain 9) nothing
 chmod_of_nine = (refl, refl, refl)
 
 reads_the_ninth : reads_link limits (chain 9) (codes "/" ++ replicate 9 120) (reply.Text (replicate 8 120)) (chain 9) nothing
@@ -227,7 +227,7 @@ file_used : IsUsed orphans 4
 file_used = inr (0, record (opened 0) { number = 4 }, refl, refl)
 
 -- an orphan that is open keeps its bytes
-unlink_open : unlinks limits tiny (codes "/f") reply.Done orphans (logs removes_name)
+unlink_open : unlinks limits None tiny (codes "/f") reply.Done orphans (logs removes_name)
 unlink_open = (
   refl,
   record {

@@ -4,17 +4,19 @@ use Rattle.std.specs.Prelude.{[], length, unwrap_or, if◌then◌else◌, IsTrue
 use Rattle.std.proofs.Math.Path.{fun_ext}
 use Rattle.std.proofs.lemmas.Bool.{false≢true}
 use Rattle.model.specs.declared.limits.Limits.{Limits}
-use Rattle.model.specs.declared.attributes.Attributes.{Attributes}
+use Rattle.model.specs.declared.attributes.Touch.TheVariants.{Status}
 use Rattle.model.specs.declared.limits.TheConstants.{OPEN_FILES}
 use Rattle.model.specs.Attributes.{set_mode}
 use Rattle.model.specs.Counting.{Counts}
 use Rattle.model.specs.Paths.{Name}
 use Rattle.model.specs.Edits.{written, resized}
+use Rattle.model.specs.Touches.{Touches, touches_entry, touches_move}
 use Rattle.model.specs.Trees.{Description}
 use Rattle.model.specs.Volumes.{Node, directory_node, file_node, link_node, Volume, Entries, bytes_of_node, names_in, entries, with_node, set_name, with_entry, is_file_node, is_directory_node, is_orphan, with_name_less, with_name_more, released, is_open, swept_node, swept}
 use Rattle.model.specs.Laws.{ReplayFollows, ReplayEndsSame, ReplaysCostTheSame}
 use Rattle.model.specs.Room.{puts_bytes, changes_size}
-use Rattle.model.specs.Records.{Change, create, link, remove_name, rename, write, truncate, change_mode, set_file, node_of, with_file_bytes, with_node_attributes, with_size, applied, IsBelow, TakesName, IsEmpty, is_vacant, CanReplace, Applies, without_orphans, Extends}
+use Rattle.model.specs.Records.{Change, Edit, create, link, remove_name, rename, write, truncate, change_mode, set_file, node_of, with_file_bytes, with_node_attributes, with_size, edited, touches_of, marked_nodes, applied, IsBelow, TakesName, IsEmpty, is_vacant, CanReplace, CanEdit, Applies, without_orphans, Extends, work_by}
+use Rattle.model.proofs.MarkLemmas.{attributes_vacant, extends-marked}
 use Rattle.model.proofs.OptionLaws.{some_or_none}
 
 -- what has no object has no names, whatever stands for it
@@ -150,15 +152,15 @@ module _ (v w : Volume) (extends : Extends v w) where
   replaces_too limits d k y n None (inr takes) = inr (takes_too limits k y takes)
   replaces_too limits d k y n (Some m) (other, kind, empty) = (other, same_kind m ∙ kind ∙ sym (same_kind n), empty_too m empty)
 
-  pub applies_too : (limits : Limits) (change : Change) → Applies limits v change → Applies limits w change
-  applies_too limits (create number parent made name) can = record {
+  edit_too : (limits : Limits) (edit : Edit) → CanEdit limits v edit → CanEdit limits w edit
+  edit_too limits (create number parent made name) can = record {
     low = can.low;
     high = can.high;
     vacant = vacant_too number can.vacant;
     takes = takes_too limits parent name can.takes;
     good = can.good;
   }
-  applies_too limits (link number parent name) can = record {
+  edit_too limits (link number parent name) can = record {
     attributes = can.attributes;
     links = can.links;
     bytes = can.bytes;
@@ -166,8 +168,8 @@ module _ (v w : Volume) (extends : Extends v w) where
     few = can.few;
     takes = takes_too limits parent name can.takes;
   }
-  applies_too limits (remove_name parent name) can = record { number = can.number; there = same_names parent name ∙ can.there; empty = empty_too can.number can.empty }
-  applies_too limits (rename parent name new_parent new_name) can = record {
+  edit_too limits (remove_name parent name) can = record { number = can.number; there = same_names parent name ∙ can.there; empty = empty_too can.number can.empty }
+  edit_too limits (rename parent name new_parent new_name) can = record {
     number = can.number;
     there = same_names parent name ∙ can.there;
     directory = still_directory new_parent can.directory;
@@ -175,10 +177,26 @@ module _ (v w : Volume) (extends : Extends v w) where
     outside = subst (λ e. ¬ IsBelow e can.number new_parent) (sym same_entries) can.outside;
     replaces = subst (CanReplace limits w parent new_parent new_name can.number) (sym (same_names new_parent new_name)) (replaces_too limits parent new_parent new_name can.number (entries v new_parent new_name) can.replaces);
   }
-  applies_too limits (write number offset bytes) can = (ap is_file_node (file_kept number can.0) ∙ can.0, can.1, can.2, can.3)
-  applies_too limits (truncate number size) can = (ap is_file_node (file_kept number can.0) ∙ can.0, can.1)
-  applies_too limits (set_file number mode size) can = (ap is_file_node (file_kept number can.0) ∙ can.0, can.1, can.2)
-  applies_too limits (change_mode number mode) can = (ap (λ o. is_file_node o || is_directory_node o) (kept_by (λ o. is_file_node o || is_directory_node o) refl number can.0) ∙ can.0, can.1)
+  edit_too limits (write number offset bytes) can = (ap is_file_node (file_kept number can.0) ∙ can.0, can.1, can.2, can.3)
+  edit_too limits (truncate number size) can = (ap is_file_node (file_kept number can.0) ∙ can.0, can.1)
+  edit_too limits (set_file number mode size) can = (ap is_file_node (file_kept number can.0) ∙ can.0, can.1, can.2)
+  edit_too limits (change_mode number mode) can = (ap (λ o. is_file_node o || is_directory_node o) (kept_by (λ o. is_file_node o || is_directory_node o) refl number can.0) ∙ can.0, can.1)
+
+  pub applies_too : (limits : Limits) (change : Change) → Applies limits v change → Applies limits w change
+  applies_too limits change can = record { time = can.time; edit = edit_too limits change.edit can.edit }
+
+  -- a record touches the same in both
+  pub touches_too : (edit : Edit) → touches_of edit w ≡ touches_of edit v
+  touches_too (create number parent made name) = refl
+  touches_too (link number parent name) = refl
+  touches_too (remove_name parent name) = ap (λ o. touches_entry Status o (Some parent)) (same_names parent name)
+  touches_too (rename parent name new_parent new_name) =
+      ap (λ o. touches_move o (entries w new_parent new_name) (Some parent) (Some new_parent)) (same_names parent name)
+      ∙ ap (λ o. touches_move (entries v parent name) o (Some parent) (Some new_parent)) (same_names new_parent new_name)
+  touches_too (write number offset bytes) = refl
+  touches_too (truncate number size) = refl
+  touches_too (change_mode number mode) = refl
+  touches_too (set_file number mode size) = refl
 
   -- behind the last record, both are the same
   pub same_in_the_end : without_orphans w ≡ without_orphans v
@@ -217,13 +235,6 @@ bytes_vacant f (Some (file_node attributes zero bytes)) vacant = refl
 bytes_vacant f (Some (file_node attributes (suc links) bytes)) vacant = vacant
 bytes_vacant f (Some (link_node attributes text)) vacant = vacant
 
-attributes_vacant : (f : Attributes → Attributes) (o : Option Node) → IsTrue (is_vacant o) → IsTrue (is_vacant (with_node_attributes f o))
-attributes_vacant f None vacant = refl
-attributes_vacant f (Some (directory_node attributes names)) vacant = vacant
-attributes_vacant f (Some (file_node attributes zero bytes)) vacant = refl
-attributes_vacant f (Some (file_node attributes (suc links) bytes)) vacant = vacant
-attributes_vacant f (Some (link_node attributes text)) vacant = vacant
-
 with_name : (v w : Volume) → Extends v w → (d : ℕ) (x : Name) (to : Option ℕ) → Extends (with_entry d x to v) (with_entry d x to w)
 with_name v w extends d x to = with_both v w extends d (set_name x to) refl (set_vacant x to)
 
@@ -237,26 +248,31 @@ with_less v w extends o r same = subst (λ (s : Option ℕ). Extends (released o
 with_edges : (v w : Volume) → Extends v w → (d : ℕ) (x : Name) (to other : Option ℕ) → other ≡ to → Extends (with_entry d x to v) (with_entry d x other w)
 with_edges v w extends d x to other same = subst (λ (o : Option ℕ). Extends (with_entry d x to v) (with_entry d x o w)) (sym same) (with_name v w extends d x to)
 
--- the running volume drops at once what the replayed one keeps
-applied_too : (v w : Volume) → Extends v w → (limits : Limits) (change : Change) → Applies limits v change → Extends (applied change v) (applied change w)
-applied_too v w extends limits (create number parent made name) can =
+edited_too : (v w : Volume) → Extends v w → (limits : Limits) (edit : Edit) → CanEdit limits v edit → Extends (edited edit v) (edited edit w)
+edited_too v w extends limits (create number parent made name) can =
     with_name (with_node number (Some (node_of made)) v) (with_node number (Some (node_of made)) w) (with_same v w extends number (Some (node_of made)) (Some (node_of made)) refl) parent name (Some number)
-applied_too v w extends limits (link number parent name) can =
+edited_too v w extends limits (link number parent name) can =
     with_name (with_node number (with_name_more (v number)) v) (with_node number (with_name_more (w number)) w)
     (with_same v w extends number (with_name_more (v number)) (with_name_more (w number)) (ap with_name_more (extends.kept number (ap is_some can.file)))) parent name (Some number)
-applied_too v w extends limits (remove_name parent name) can =
+edited_too v w extends limits (remove_name parent name) can =
     with_name (released (entries v parent name) v) (released (entries w parent name) w) (with_less v w extends (entries v parent name) (entries w parent name) (same_names v w extends parent name)) parent name None
-applied_too v w extends limits (rename parent name new_parent new_name) can =
+edited_too v w extends limits (rename parent name new_parent new_name) can =
     let less = with_less v w extends (entries v new_parent new_name) (entries w new_parent new_name) (same_names v w extends new_parent new_name) in
     with_edges (with_entry parent name None (released (entries v new_parent new_name) v)) (with_entry parent name None (released (entries w new_parent new_name) w))
     (with_name (released (entries v new_parent new_name) v) (released (entries w new_parent new_name) w) less parent name None)
     new_parent new_name (entries v parent name) (entries w parent name) (same_names v w extends parent name)
-applied_too v w extends limits (write number offset bytes) can = with_both v w extends number (with_file_bytes (written offset bytes)) refl (bytes_vacant (written offset bytes))
-applied_too v w extends limits (truncate number size) can = with_both v w extends number (with_file_bytes (resized size)) refl (bytes_vacant (resized size))
-applied_too v w extends limits (change_mode number mode) can = with_both v w extends number (with_node_attributes (set_mode mode)) refl (attributes_vacant (set_mode mode))
-applied_too v w extends limits (set_file number mode size) can =
-    with_both (with_size number size v) (with_size number size w) (with_both v w extends number (with_file_bytes (resized size)) refl (bytes_vacant (resized size))) number (with_node_attributes (set_mode mode)) refl (attributes_vacant (set_mode mode))
+edited_too v w extends limits (write number offset bytes) can = with_both v w extends number (with_file_bytes (written offset bytes)) refl (bytes_vacant (written offset bytes))
+edited_too v w extends limits (truncate number size) can = with_both v w extends number (with_file_bytes (resized size)) refl (bytes_vacant (resized size))
+edited_too v w extends limits (change_mode number mode) can = with_both v w extends number (with_node_attributes (set_mode mode)) refl (λ o vacant. attributes_vacant (set_mode mode) o ∙ vacant)
+edited_too v w extends limits (set_file number mode size) can =
+    with_both (with_size number size v) (with_size number size w) (with_both v w extends number (with_file_bytes (resized size)) refl (bytes_vacant (resized size))) number (with_node_attributes (set_mode mode)) refl (λ o vacant. attributes_vacant (set_mode mode) o ∙ vacant)
 
+pub applied_too : (v w : Volume) → Extends v w → (limits : Limits) (change : Change) → Applies limits v change → Extends (applied change v) (applied change w)
+applied_too v w extends limits change can =
+    subst (λ (touches : Touches). Extends (applied change v) (marked_nodes change.time touches (edited change.edit w))) (sym (touches_too v w extends change.edit))
+    (extends-marked change.time (touches_of change.edit v) (edited change.edit v) (edited change.edit w) (edited_too v w extends limits change.edit can.edit))
+
+-- the running volume drops at once what the replayed one keeps
 pub extends_on : ReplayFollows
 extends_on limits v w table change extends can = (
   applies_too v w extends limits change can,
@@ -266,12 +282,15 @@ extends_on limits v w table change extends can = (
 pub ends_same : ReplayEndsSame
 ends_same v w extends = same_in_the_end v w extends
 
+edits_cost_the_same : (limits : Limits) (v w : Volume) (edit : Edit) → Extends v w → CanEdit limits v edit → work_by w edit ≡ work_by v edit
+edits_cost_the_same limits v w (create number parent made name) extends can = refl
+edits_cost_the_same limits v w (link number parent name) extends can = refl
+edits_cost_the_same limits v w (remove_name parent name) extends can = refl
+edits_cost_the_same limits v w (rename parent name new_parent new_name) extends can = refl
+edits_cost_the_same limits v w (write number offset bytes) extends can = ap (λ o. puts_bytes (length (unwrap_or (bytes_of_node o) [])) offset (length bytes)) (file_kept v w extends number can.0)
+edits_cost_the_same limits v w (truncate number size) extends can = ap (λ o. changes_size (length (unwrap_or (bytes_of_node o) [])) size) (file_kept v w extends number can.0)
+edits_cost_the_same limits v w (change_mode number mode) extends can = refl
+edits_cost_the_same limits v w (set_file number mode size) extends can = ap (λ o. changes_size (length (unwrap_or (bytes_of_node o) [])) size) (file_kept v w extends number can.0)
+
 pub costs_the_same : ReplaysCostTheSame
-costs_the_same limits v w (create number parent made name) extends can = refl
-costs_the_same limits v w (link number parent name) extends can = refl
-costs_the_same limits v w (remove_name parent name) extends can = refl
-costs_the_same limits v w (rename parent name new_parent new_name) extends can = refl
-costs_the_same limits v w (write number offset bytes) extends can = ap (λ o. puts_bytes (length (unwrap_or (bytes_of_node o) [])) offset (length bytes)) (file_kept v w extends number can.0)
-costs_the_same limits v w (truncate number size) extends can = ap (λ o. changes_size (length (unwrap_or (bytes_of_node o) [])) size) (file_kept v w extends number can.0)
-costs_the_same limits v w (change_mode number mode) extends can = refl
-costs_the_same limits v w (set_file number mode size) extends can = ap (λ o. changes_size (length (unwrap_or (bytes_of_node o) [])) size) (file_kept v w extends number can.0)
+costs_the_same limits v w change extends can = edits_cost_the_same limits v w change.edit extends can.edit

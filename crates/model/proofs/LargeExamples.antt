@@ -1,5 +1,5 @@
 -- Worked rows of files of 65,536 bytes and more, and of the room that they ask for.
-use Rattle.std.proofs.Common.{◌≡◌, ℕ, ◌+◌, List, [], ◌∷◌, ◌++◌, length, true, false, refl, replicate, Some, arith, lit≤}
+use Rattle.std.proofs.Common.{◌≡◌, ℕ, ◌+◌, List, [], ◌∷◌, ◌++◌, length, true, false, refl, replicate, Some, None, arith, lit≤}
 use Rattle.std.specs.Prelude.{codes, pos}
 use Rattle.model.specs.declared.errno.Errno.TheVariants.{EFBIG}
 use Rattle.model.specs.declared.reply.Reply.TheVariants as reply
@@ -33,10 +33,10 @@ file_of_is bytes offset = told_descriptor (told_bytes (told_file (told_root 0o75
 
 -- `write 0` of 128 bytes, and of one more
 
-writes_128_bytes : writes limits (file_of [] 0) 0 (replicate 128 0x61) (reply.Wrote 128) (with_descriptor 0 (Some (at_offset 128)) (with_bytes 4 (replicate 128 0x61) (file_of [] 0))) (logs (puts_bytes 0 0 128))
+writes_128_bytes : writes limits None (file_of [] 0) 0 (replicate 128 0x61) (reply.Wrote 128) (with_descriptor 0 (Some (at_offset 128)) (with_bytes 4 (replicate 128 0x61) (file_of [] 0))) (logs (puts_bytes 0 0 128))
 writes_128_bytes = (refl, refl, refl)
 
-writes_one_more : writes limits (file_of (replicate 128 0x61) 128) 0 (0x62 ∷ []) (reply.Wrote 1) (with_descriptor 0 (Some (at_offset 129)) (with_bytes 4 (replicate 128 0x61 ++ 0x62 ∷ []) (file_of (replicate 128 0x61) 128))) (logs (puts_bytes 128 128 1))
+writes_one_more : writes limits None (file_of (replicate 128 0x61) 128) 0 (0x62 ∷ []) (reply.Wrote 1) (with_descriptor 0 (Some (at_offset 129)) (with_bytes 4 (replicate 128 0x61 ++ 0x62 ∷ []) (file_of (replicate 128 0x61) 128))) (logs (puts_bytes 128 128 1))
 writes_one_more = (refl, refl, refl)
 
 -- `pwrite 0 65536 ff`, `pread 0 65534 4`, `fstat 0`
@@ -44,7 +44,7 @@ writes_one_more = (refl, refl, refl)
 abbrev behind_a_hole : List ℕ
 behind_a_hole = replicate 65536 0 ++ 0xff ∷ []
 
-writes_behind_a_hole : writes_to limits (file_of [] 0) 0 (pos 65536) (0xff ∷ []) (reply.Wrote 1) (with_bytes 4 behind_a_hole (file_of [] 0)) (logs (puts_bytes 0 65536 1))
+writes_behind_a_hole : writes_to limits None (file_of [] 0) 0 (pos 65536) (0xff ∷ []) (reply.Wrote 1) (with_bytes 4 behind_a_hole (file_of [] 0)) (logs (puts_bytes 0 65536 1))
 writes_behind_a_hole = (refl, refl, refl)
 
 reads_over_its_end : reads_from (file_of behind_a_hole 0) 0 (pos 65534) 4 (reply.Data (0 ∷ 0 ∷ 0xff ∷ [])) (file_of behind_a_hole 0) nothing
@@ -58,10 +58,10 @@ stat_of_65537_bytes = (1, links_told (file_of_is behind_a_hole 0) 4 (at_f ∷ []
 abbrev full : List ℕ
 full = replicate 65536 0x61
 
-writes_65536_bytes : writes limits (file_of [] 0) 0 full (reply.Wrote 65536) (with_descriptor 0 (Some (at_offset 65536)) (with_bytes 4 full (file_of [] 0))) (logs (puts_bytes 0 0 65536))
+writes_65536_bytes : writes limits None (file_of [] 0) 0 full (reply.Wrote 65536) (with_descriptor 0 (Some (at_offset 65536)) (with_bytes 4 full (file_of [] 0))) (logs (puts_bytes 0 0 65536))
 writes_65536_bytes = (refl, refl, refl)
 
-writes_65463_more : writes limits (file_of full 65536) 0 (replicate 65463 0x61) (reply.Wrote 65463) (with_descriptor 0 (Some (at_offset 130999)) (with_bytes 4 (replicate 130999 0x61) (file_of full 65536))) (logs (puts_bytes 65536 65536 65463))
+writes_65463_more : writes limits None (file_of full 65536) 0 (replicate 65463 0x61) (reply.Wrote 65463) (with_descriptor 0 (Some (at_offset 130999)) (with_bytes 4 (replicate 130999 0x61) (file_of full 65536))) (logs (puts_bytes 65536 65536 65463))
 writes_65463_more = (refl, refl, refl)
 
 gets_the_last : gets limits (file_of full 0) (codes "/f") (pos 65535) 9 (reply.Data (0x61 ∷ [])) (file_of full 0) nothing
@@ -75,7 +75,7 @@ size_after_one_byte offset = omega (arith, length-written offset (0 ∷ []) [])
 stat_of_any_bytes : (bytes : List ℕ) → stats limits (file_of bytes 0) true (codes "/f") (reply.Stat (record { number = 4; kind = kind.File; mode = 0o644; links = 1; size = length bytes })) (file_of bytes 0) nothing
 stat_of_any_bytes bytes = (1, links_told (file_of_is bytes 0) 4 (at_f ∷ []) refl refl refl, (refl, refl, refl))
 
-past_the_greatest_file : writes_to limits (file_of [] 0) 0 (pos 68719476735) (0 ∷ 0 ∷ []) (reply.Refused EFBIG) (file_of [] 0) nothing
+past_the_greatest_file : writes_to limits None (file_of [] 0) 0 (pos 68719476735) (0 ∷ 0 ∷ []) (reply.Refused EFBIG) (file_of [] 0) nothing
 past_the_greatest_file = (refl, refl, refl)
 
 -- room on a disk of 64 blocks: a file of 65,536 bytes, and a directory that finds none until the file is gone

@@ -36,10 +36,12 @@ pub mod MountedLemmas
 pub mod AddLemmas
 pub mod LimitLemmas
 pub mod MoveLemmas
+pub mod MarkLemmas
 pub mod RecordLemmas
 pub mod MountLemmas
 pub mod LeadLemmas
 pub mod LooseLemmas
+pub mod TreeMarkLemmas
 pub mod PlaceLemmas
 pub mod TakeLemmas
 pub mod RelocateLemmas

@@ -8,7 +8,8 @@ use Rattle.model.specs.Laws.{ReplaysKeepVolumes, MountsFind, MountsForget}
 use Rattle.model.proofs.SweepLemmas.{objects-swept, used_stays, not_unused, none_from}
 use Rattle.model.proofs.ExtendLemmas.{same_in_the_end}
 use Rattle.model.proofs.RecordLemmas.{swept_twice}
-use Rattle.model.proofs.MoveLemmas.{records_keep_volumes, volume-swept}
+use Rattle.model.proofs.MarkLemmas.{records_keep_volumes}
+use Rattle.model.proofs.MoveLemmas.{volume-swept}
 use Rattle.model.proofs.OptionLaws.{none_some}
 
 pub replays_keep_volumes : ReplaysKeepVolumes

@@ -1,4 +1,4 @@
--- A record that applies, by the paths of its directories; and that it keeps a volume.
+-- A record that applies, by the paths of its directories; and that what it does keeps a volume.
 use Rattle.std.proofs.Common.{◌≡◌, ◌≢◌, inl, inr, ℕ, ◌≤◌, ◌<◌, List, [], ◌∷◌, ◌++◌, fold, length, true, Option, Some, None, is_some, IsSome, IfSome, refl, sym, ap, subst, ◌∙◌, arith, lit≤}
 use Rattle.std.proofs.lemmas.Bool.{cases_eq}
 use Rattle.std.proofs.lemmas.List.{same_from_push}
@@ -13,8 +13,8 @@ use Rattle.model.specs.Paths.{Name, Path, IsName, behind}
 use Rattle.model.specs.Trees.{Description}
 use Rattle.model.specs.Edits.{written, resized}
 use Rattle.model.specs.Volumes.{Node, directory_node, file_node, link_node, Volume, Entries, names_in, entries, enter, number_at, with_node, with_edge, with_entry, is_file_node, is_directory_node, IsGraph, IsNode, IsVolume, with_name_more, released, created, linked, unnamed, renamed, swept}
-use Rattle.model.specs.Records.{Made, file, directory, symbolic_link, create, link, remove_name, rename, write, truncate, change_mode, set_file, node_of, with_file_bytes, with_node_attributes, with_size, with_bits, IsMade, CanReplace, CanRename}
-use Rattle.model.specs.Laws.{RecordsKeepVolumes, SweepsKeepVolumes}
+use Rattle.model.specs.Records.{Made, file, directory, symbolic_link, Edit, create, link, remove_name, rename, write, truncate, change_mode, set_file, node_of, with_file_bytes, with_node_attributes, with_size, with_bits, edited, IsMade, CanReplace, CanRename, CanEdit}
+use Rattle.model.specs.Laws.{SweepsKeepVolumes}
 use Rattle.model.proofs.AttributeLaws.{new_fit, set_fit}
 use Rattle.model.proofs.WalkLemmas.{behind-is, edge_other}
 use Rattle.model.proofs.VolumeLemmas.{directory_some, directory_no_file, enters_directory}
@@ -232,7 +232,7 @@ attributes_links f (Some (directory_node a names)) attributes links bytes is = c
 attributes_links f (Some (file_node a l b)) attributes links bytes is = let same : l ≡ links = cc in (a, b, ap (λ c. Some (file_node a c b)) same)
 attributes_links f (Some (link_node a text)) attributes links bytes is = cc
 
-attributes_good : (limits : Limits) (f : Attributes → Attributes) (o : Option Node) → ((a : Attributes) → FitAttributes limits.has_attributes a → FitAttributes limits.has_attributes (f a)) → IfSome o (IsNode limits) → IfSome (with_node_attributes f o) (IsNode limits)
+pub attributes_good : (limits : Limits) (f : Attributes → Attributes) (o : Option Node) → ((a : Attributes) → FitAttributes limits.has_attributes a → FitAttributes limits.has_attributes (f a)) → IfSome o (IsNode limits) → IfSome (with_node_attributes f o) (IsNode limits)
 attributes_good limits f None fits good = tt
 attributes_good limits f (Some (directory_node attributes names)) fits good = fits attributes good
 attributes_good limits f (Some (file_node attributes links bytes)) fits good = (fits attributes good.0, good.1, good.2)
@@ -251,9 +251,9 @@ volume-bits limits v volume number mode few =
     volume-altered limits v volume number (with_node_attributes f (v number)) (attributes_names f (v number)) (attributes_file f (v number)) (attributes_directory f (v number)) (attributes_is_some f (v number)) (attributes_links f (v number))
     (attributes_good limits f (v number) (λ a fit. set_fit limits.has_attributes mode a few fit) (volume.keeps.nodes number))
 
--- a record that applies keeps a volume
-pub records_keep_volumes : RecordsKeepVolumes
-records_keep_volumes limits v (create number parent made name) volume can =
+-- what a record does keeps a volume
+pub edits_keep_volumes : (limits : Limits) (v : Volume) (edit : Edit) → IsVolume limits v → CanEdit limits v edit → IsVolume limits (edited edit v)
+edits_keep_volumes limits v (create number parent made name) volume can =
     let path = path_to v volume.graph parent can.takes.directory in
     let kept = volume.keeps in
     let edges : entries (created number parent name (node_of made) v) ≡ with_edge parent name (Some number) (entries v) =
@@ -267,7 +267,7 @@ records_keep_volumes limits v (create number parent made name) volume can =
         children = subst (HasFew limits) (sym edges) (few_more (entries v) parent name (Some number) limits kept.children refl can.takes.missing can.takes.count can.takes.counts can.takes.room);
       };
     }
-records_keep_volumes limits v (link number parent name) volume can =
+edits_keep_volumes limits v (link number parent name) volume can =
     let path = path_to v volume.graph parent can.takes.directory in
     let kept = volume.keeps in
     let edges : entries (linked number parent name v) ≡ with_edge parent name (Some number) (entries v) =
@@ -281,7 +281,7 @@ records_keep_volumes limits v (link number parent name) volume can =
         children = subst (HasFew limits) (sym edges) (few_more (entries v) parent name (Some number) limits kept.children refl can.takes.missing can.takes.count can.takes.counts can.takes.room);
       };
     }
-records_keep_volumes limits v (remove_name parent name) volume can =
+edits_keep_volumes limits v (remove_name parent name) volume can =
     let is = enters_directory (v parent) name can.number can.there in
     let path = path_to v volume.graph parent is in
     let kept = volume.keeps in
@@ -295,7 +295,7 @@ records_keep_volumes limits v (remove_name parent name) volume can =
         children = subst (HasFew limits) (sym edges) (few_less (entries v) parent name None limits kept.children refl);
       };
     }
-records_keep_volumes limits v (rename parent name new_parent new_name) volume can =
+edits_keep_volumes limits v (rename parent name new_parent new_name) volume can =
     let kept = volume.keeps in
     let target : Option ℕ = entries v new_parent new_name in
     record {
@@ -307,10 +307,10 @@ records_keep_volumes limits v (rename parent name new_parent new_name) volume ca
         children = few-moved v volume.graph parent name new_parent new_name can kept.children;
       };
     }
-records_keep_volumes limits v (write number offset bytes) volume can = volume-bytes limits v volume number (written offset bytes) (λ old short. written_short offset bytes old can.3 short)
-records_keep_volumes limits v (truncate number size) volume can = volume-size limits v volume number size can.1
-records_keep_volumes limits v (change_mode number mode) volume can = volume-bits limits v volume number mode can.1
-records_keep_volumes limits v (set_file number mode size) volume can =
+edits_keep_volumes limits v (write number offset bytes) volume can = volume-bytes limits v volume number (written offset bytes) (λ old short. written_short offset bytes old can.3 short)
+edits_keep_volumes limits v (truncate number size) volume can = volume-size limits v volume number size can.1
+edits_keep_volumes limits v (change_mode number mode) volume can = volume-bits limits v volume number mode can.1
+edits_keep_volumes limits v (set_file number mode size) volume can =
     volume-bits limits (with_size number size v) (volume-size limits v volume number size can.2) number mode can.1
 
 -- and so does a sweep

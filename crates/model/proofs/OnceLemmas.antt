@@ -5,6 +5,7 @@ use Rattle.std.proofs.Math.Path.{fun_ext}
 use Rattle.std.proofs.lemmas.Bool.{cases_Bool, cases_order, both_ways}
 use Rattle.std.proofs.lemmas.Slice.Eq.{bytes_eq-Decides}
 use Rattle.model.specs.declared.limits.Limits.{Limits}
+use Rattle.model.specs.declared.time.Time.{Time}
 use Rattle.model.specs.declared.limits.TheConstants.{ENTRIES_TOLD, OPEN_FILES}
 use Rattle.model.specs.declared.errno.Errno.{Errno}
 use Rattle.model.specs.declared.errno.Errno.TheVariants.{ENOENT, ENOTDIR, EISDIR, EEXIST, EINVAL, EPERM, EBUSY, EBADF, EMFILE, EFBIG, EMLINK, EOVERFLOW, ELOOP, ENOTEMPTY, DIRFULL, NONUMBER, ESTALE}
@@ -280,30 +281,30 @@ once_get limits t path offset count =
     once_tested t (text_tests_then limits ((reading.is_negative offset || reading.is_too_many count, EINVAL) ∷ []) path) _
     (once_to t true path _ (λ p o. once_by_kind o _ _ _ (λ n. once_refuses t EISDIR) (λ n text. never_once) (λ n. once_answers t _)))
 
-once_creates : (limits : Limits) (t : Tree) (path : List ℕ) (make : Path → ℕ → Tree → Tree) → Once (changing.creates limits t path make)
-once_creates limits t path make =
+once_creates : (limits : Limits) (now : Option Time) (t : Tree) (path : List ℕ) (make : Path → ℕ → Tree → Tree) → Once (changing.creates limits now t path make)
+once_creates limits now t path make =
     once_tested t (new_text_tests limits path) _
     (once_along t false path _ _ (λ p o. once_refuses t EEXIST) (λ p name. once_place limits t p _ (once_fresh limits t _ (λ n. once_changes _ _ _))))
 
-once_symlink : (limits : Limits) (t : Tree) (text path : List ℕ) → Once (changing.makes_symlink limits t text path)
-once_symlink limits t text path =
-    once_tested t (changing.link_text_tests limits text) _ (once_creates limits t path (λ p n. with_symlink p n text))
+once_symlink : (limits : Limits) (now : Option Time) (t : Tree) (text path : List ℕ) → Once (changing.makes_symlink limits now t text path)
+once_symlink limits now t text path =
+    once_tested t (changing.link_text_tests limits text) _ (once_creates limits now t path (λ p n. with_symlink p n text))
 
-once_removes : (t : Tree) (p : Path) → Once (changing.removes t p)
-once_removes t p = once_swept _ _ _
+once_removes : (now : Option Time) (t : Tree) (p : Path) → Once (changing.removes now t p)
+once_removes now t p = once_swept _ _ _
 
-once_rmdir : (limits : Limits) (t : Tree) (path : List ℕ) → Once (changing.removes_directory limits t path)
-once_rmdir limits t path =
+once_rmdir : (limits : Limits) (now : Option Time) (t : Tree) (path : List ℕ) → Once (changing.removes_directory limits now t path)
+once_rmdir limits now t path =
     once_tested t (new_text_tests limits path ++ (is_root_text path, EBUSY) ∷ []) _
-    (once_to t false path _ (λ p o. once_by_kind o _ _ _ (λ n. once_names t p _ (λ names. once_test t _ ENOTEMPTY _ (once_removes t p))) (λ n text. once_refuses t ENOTDIR) (λ n. once_refuses t ENOTDIR)))
+    (once_to t false path _ (λ p o. once_by_kind o _ _ _ (λ n. once_names t p _ (λ names. once_test t _ ENOTEMPTY _ (once_removes now t p))) (λ n text. once_refuses t ENOTDIR) (λ n. once_refuses t ENOTDIR)))
 
-once_unlink : (limits : Limits) (t : Tree) (path : List ℕ) → Once (changing.unlinks limits t path)
-once_unlink limits t path =
+once_unlink : (limits : Limits) (now : Option Time) (t : Tree) (path : List ℕ) → Once (changing.unlinks limits now t path)
+once_unlink limits now t path =
     once_tested t (new_text_tests limits path) _
-    (once_to t false path _ (λ p o. once_test t _ EPERM _ (once_removes t p)))
+    (once_to t false path _ (λ p o. once_test t _ EPERM _ (once_removes now t p)))
 
-once_link : (limits : Limits) (t : Tree) (old path : List ℕ) → Once (changing.links limits t old path)
-once_link limits t old path =
+once_link : (limits : Limits) (now : Option Time) (t : Tree) (old path : List ℕ) → Once (changing.links limits now t old path)
+once_link limits now t old path =
     once_tested t (text_tests limits old ++ new_text_tests limits path) _
     (once_to t false old _ (λ p o. once_by_kind o _ _ _ (λ n. once_refuses t EPERM) (λ n text. once_refuses t EPERM) (λ n.
     once_along t false path _ _ (λ q r. once_refuses t EEXIST) (λ q name.
@@ -315,70 +316,70 @@ once_target limits t p q (Some (directory n)) rest once = once_names t q _ (λ n
 once_target limits t p q (Some (symlink n text)) rest once = once
 once_target limits t p q (Some (file n)) rest once = once
 
-once_moves : (limits : Limits) (t : Tree) (p : Path) (o : Object) (q : Path) → Once (changing.moves limits t p o q)
-once_moves limits t p o q =
+once_moves : (limits : Limits) (now : Option Time) (t : Tree) (p : Path) (o : Object) (q : Path) → Once (changing.moves limits now t p o q)
+once_moves limits now t p o q =
     once_either _ _ _ (once_answers t _) (once_tested t (changing.move_tests p o q (t.objects q)) _ (once_target limits t p q (t.objects q) _ (once_swept _ _ _)))
 
-once_rename : (limits : Limits) (t : Tree) (only_new : Bool) (old path : List ℕ) → Once (changing.renames limits t only_new old path)
-once_rename limits t only_new old path =
+once_rename : (limits : Limits) (now : Option Time) (t : Tree) (only_new : Bool) (old path : List ℕ) → Once (changing.renames limits now t only_new old path)
+once_rename limits now t only_new old path =
     once_tested t (new_text_tests limits old ++ new_text_tests limits path ++ (is_root_text old || is_root_text path, EBUSY) ∷ []) _
-    (once_to t false old _ (λ p o. once_along t false path _ _ (λ q r. once_test t only_new EEXIST _ (once_moves limits t p o q)) (λ q name. once_moves limits t p o (q ++ name ∷ []))))
+    (once_to t false old _ (λ p o. once_along t false path _ _ (λ q r. once_test t only_new EEXIST _ (once_moves limits now t p o q)) (λ q name. once_moves limits now t p o (q ++ name ∷ []))))
 
-once_chmod : (limits : Limits) (t : Tree) (path : List ℕ) (mode : ℕ) → Once (changing.changes_mode limits t path mode)
-once_chmod limits t path mode =
+once_chmod : (limits : Limits) (now : Option Time) (t : Tree) (path : List ℕ) (mode : ℕ) → Once (changing.changes_mode limits now t path mode)
+once_chmod limits now t path mode =
     once_tested t (text_tests limits path) _
     (once_to t true path _ (λ p o. once_by_kind o _ _ _ (λ n. once_changes _ _ _) (λ n text. never_once) (λ n. once_changes _ _ _)))
 
-once_truncate : (limits : Limits) (t : Tree) (path : List ℕ) (size : ℤ) → Once (changing.truncates limits t path size)
-once_truncate limits t path size =
+once_truncate : (limits : Limits) (now : Option Time) (t : Tree) (path : List ℕ) (size : ℤ) → Once (changing.truncates limits now t path size)
+once_truncate limits now t path size =
     once_tested t (text_tests_then limits (changing.size_tests limits size) path) _
     (once_to t true path _ (λ p o. once_by_kind o _ _ _ (λ n. once_refuses t EISDIR) (λ n text. never_once) (λ n. once_changes _ _ _)))
 
-once_sets_mode : (t : Tree) (n : ℕ) (mode : Option ℕ) → Once (changing.sets_mode t n mode)
-once_sets_mode t n None = once_answers t _
-once_sets_mode t n (Some mode) = once_changes _ _ _
+once_sets_mode : (now : Option Time) (t : Tree) (n : ℕ) (mode : Option ℕ) → Once (changing.sets_mode now t n mode)
+once_sets_mode now t n None = once_answers t _
+once_sets_mode now t n (Some mode) = once_changes _ _ _
 
-once_sets_file : (t : Tree) (n : ℕ) (mode : Option ℕ) (size : Option ℤ) → Once (changing.sets_file t n mode size)
-once_sets_file t n mode None = once_sets_mode t n mode
-once_sets_file t n None (Some size) = once_changes _ _ _
-once_sets_file t n (Some mode) (Some size) = once_either _ _ _ (once_changes _ _ _) (once_changes _ _ _)
+once_sets_file : (now : Option Time) (t : Tree) (n : ℕ) (mode : Option ℕ) (size : Option ℤ) → Once (changing.sets_file now t n mode size)
+once_sets_file now t n mode None = once_sets_mode now t n mode
+once_sets_file now t n None (Some size) = once_changes _ _ _
+once_sets_file now t n (Some mode) (Some size) = once_either _ _ _ (once_changes _ _ _) (once_changes _ _ _)
 
-once_set : (limits : Limits) (t : Tree) (path : List ℕ) (settings : Settings) → Once (changing.sets limits t path settings)
-once_set limits t path settings =
+once_set : (limits : Limits) (now : Option Time) (t : Tree) (path : List ℕ) (settings : Settings) → Once (changing.sets limits now t path settings)
+once_set limits now t path settings =
     once_tested t (text_tests_then limits (changing.given_size_tests limits settings.size) path) _
-    (once_to t true path _ (λ p o. once_by_kind o _ _ _ (λ n. once_test t _ EISDIR _ (once_sets_mode t n settings.mode)) (λ n text. never_once) (λ n. once_sets_file t n settings.mode settings.size)))
+    (once_to t true path _ (λ p o. once_by_kind o _ _ _ (λ n. once_test t _ EISDIR _ (once_sets_mode now t n settings.mode)) (λ n text. never_once) (λ n. once_sets_file now t n settings.mode settings.size)))
 
 once_opens_file : (tells : Bool) (n : ℕ) (flags : Flags) (fd : ℕ) (t : Tree) (need : Need) → Once (descriptors.opens_file tells n flags fd t need)
 once_opens_file tells n flags fd t need =
     let opened : Tree = with_descriptor fd (Some (descriptors.described_by n flags)) t in
     once_either tells _ _ (once_links opened (file n) _ (λ links. once_changes _ opened need)) (once_changes _ opened need)
 
-once_opens_object : (tells : Bool) (t : Tree) (o : Object) (flags : Flags) (fd : ℕ) → Once (descriptors.opens_object tells t o flags fd)
-once_opens_object tells t o flags fd =
+once_opens_object : (tells : Bool) (now : Option Time) (t : Tree) (o : Object) (flags : Flags) (fd : ℕ) → Once (descriptors.opens_object tells now t o flags fd)
+once_opens_object tells now t o flags fd =
     once_test t _ EEXIST _ (once_by_kind o _ _ _ (λ n. once_refuses t EISDIR) (λ n text. never_once) (λ n. once_either _ _ _ (once_opens_file tells n flags fd _ _) (once_opens_file tells n flags fd _ _)))
 
-once_opens_new : (tells : Bool) (limits : Limits) (t : Tree) (p : Path) (name : Name) (flags : Flags) (mode fd : ℕ) → Once (descriptors.opens_new tells limits t p name flags mode fd)
-once_opens_new tells limits t p name flags mode fd =
+once_opens_new : (tells : Bool) (limits : Limits) (now : Option Time) (t : Tree) (p : Path) (name : Name) (flags : Flags) (mode fd : ℕ) → Once (descriptors.opens_new tells limits now t p name flags mode fd)
+once_opens_new tells limits now t p name flags mode fd =
     once_test t _ ENOENT _ (once_place limits t p _ (once_fresh limits t _ (λ n. once_opens_file tells n flags fd _ _)))
 
-pub once_open : (tells : Bool) (below : ℕ) (limits : Limits) (t : Tree) (path : List ℕ) (flags : Flags) (mode : ℕ) → Once (descriptors.opens tells below limits t path flags mode)
-once_open tells below limits t path flags mode =
+pub once_open : (tells : Bool) (below : ℕ) (limits : Limits) (now : Option Time) (t : Tree) (path : List ℕ) (flags : Flags) (mode : ℕ) → Once (descriptors.opens tells below limits now t path flags mode)
+once_open tells below limits now t path flags mode =
     once_tested t (text_tests_then limits (descriptors.open_tests flags) path) _
     (elim (lowest_free t.descriptors (min below OPEN_FILES)) as (λ o. Once (elim o as (λ _. Outcome) [
       | None ↦ refuses t EMFILE
-      | Some fd ↦ goes_along t (not (flags.creates && flags.exclusive)) path (λ p o. descriptors.opens_object tells t o flags fd) (λ p name. descriptors.opens_new tells limits t p name flags mode fd)
+      | Some fd ↦ goes_along t (not (flags.creates && flags.exclusive)) path (λ p o. descriptors.opens_object tells now t o flags fd) (λ p name. descriptors.opens_new tells limits now t p name flags mode fd)
     ])) [
       | None ↦ once_refuses t EMFILE
-      | Some fd ↦ once_along t (not (flags.creates && flags.exclusive)) path _ _ (λ p o. once_opens_object tells t o flags fd) (λ p name. once_opens_new tells limits t p name flags mode fd)
+      | Some fd ↦ once_along t (not (flags.creates && flags.exclusive)) path _ _ (λ p o. once_opens_object tells now t o flags fd) (λ p name. once_opens_new tells limits now t p name flags mode fd)
     ])
 
-once_puts : (limits : Limits) (t : Tree) (n offset : ℕ) (given : List ℕ) (also : Tree → Tree) → Once (descriptors.puts limits t n offset given also)
-once_puts limits t n offset given also = once_either _ _ _ (once_answers t _) (once_test t _ EFBIG _ (once_changes _ _ _))
+once_puts : (limits : Limits) (now : Option Time) (t : Tree) (n offset : ℕ) (given : List ℕ) (also : Tree → Tree) → Once (descriptors.puts limits now t n offset given also)
+once_puts limits now t n offset given also = once_either _ _ _ (once_answers t _) (once_test t _ EFBIG _ (once_changes _ _ _))
 
-once_store : (limits : Limits) (t : Tree) (path : List ℕ) (offset : ℤ) (given : List ℕ) → Once (descriptors.stores limits t path offset given)
-once_store limits t path offset given =
+once_store : (limits : Limits) (now : Option Time) (t : Tree) (path : List ℕ) (offset : ℤ) (given : List ℕ) → Once (descriptors.stores limits now t path offset given)
+once_store limits now t path offset given =
     once_tested t (text_tests_then limits ((reading.is_negative offset || reading.is_too_many (length given), EINVAL) ∷ []) path) _
-    (once_to t true path _ (λ p o. once_by_kind o _ _ _ (λ n. once_refuses t EISDIR) (λ n text. never_once) (λ n. once_puts limits t n (nat_abs offset) given (λ after. after))))
+    (once_to t true path _ (λ p o. once_by_kind o _ _ _ (λ n. once_refuses t EISDIR) (λ n text. never_once) (λ n. once_puts limits now t n (nat_abs offset) given (λ after. after))))
 
 once_with_extent : (t : Tree) (stored : ℕ → Bool) (n offset : ℕ) → Once (reading.with_extent t stored n offset)
 once_with_extent t stored n offset a b u v m k (extent, tells, done) (other, again, also) =
@@ -396,27 +397,30 @@ once_close t fd = once_described t fd _ (λ f. once_swept _ _ _)
 pub once_read : (t : Tree) (fd count : ℕ) → Once (descriptors.reads t fd count)
 once_read t fd count = once_described t fd _ (λ f. once_two t _ _ EBADF EINVAL _ (once_changes _ _ _))
 
-pub once_write : (limits : Limits) (t : Tree) (fd : ℕ) (given : List ℕ) → Once (descriptors.writes limits t fd given)
-once_write limits t fd given =
+pub once_write : (limits : Limits) (now : Option Time) (t : Tree) (fd : ℕ) (given : List ℕ) → Once (descriptors.writes limits now t fd given)
+once_write limits now t fd given =
     once_described t fd _ (λ f.
     let offset = if f.appends then length (contents t f.number) else f.offset in
-    once_two t (not f.writes) (reading.is_too_many (length given)) EBADF EINVAL (descriptors.puts limits t f.number offset given (descriptors.with_offset fd f (offset + length given)))
-    (once_puts limits t f.number offset given (descriptors.with_offset fd f (offset + length given))))
+    once_two t (not f.writes) (reading.is_too_many (length given)) EBADF EINVAL (descriptors.puts limits now t f.number offset given (descriptors.with_offset fd f (offset + length given)))
+    (once_puts limits now t f.number offset given (descriptors.with_offset fd f (offset + length given))))
 
 pub once_pread : (t : Tree) (fd : ℕ) (offset : ℤ) (count : ℕ) → Once (descriptors.reads_from t fd offset count)
 once_pread t fd offset count = once_described t fd _ (λ f. once_two t _ _ EBADF EINVAL _ (once_answers t _))
 
-pub once_pwrite : (limits : Limits) (t : Tree) (fd : ℕ) (offset : ℤ) (given : List ℕ) → Once (descriptors.writes_to limits t fd offset given)
-once_pwrite limits t fd offset given =
+pub once_pwrite : (limits : Limits) (now : Option Time) (t : Tree) (fd : ℕ) (offset : ℤ) (given : List ℕ) → Once (descriptors.writes_to limits now t fd offset given)
+once_pwrite limits now t fd offset given =
     once_described t fd _ (λ f.
-    once_two t (not f.writes) (reading.is_negative offset || reading.is_too_many (length given)) EBADF EINVAL (descriptors.puts limits t f.number (nat_abs offset) given (λ after. after))
-    (once_puts limits t f.number (nat_abs offset) given (λ after. after)))
+    once_two t (not f.writes) (reading.is_negative offset || reading.is_too_many (length given)) EBADF EINVAL (descriptors.puts limits now t f.number (nat_abs offset) given (λ after. after))
+    (once_puts limits now t f.number (nat_abs offset) given (λ after. after)))
 
 pub once_seek : (t : Tree) (fd : ℕ) (from : Whence) (offset : ℤ) → Once (descriptors.seeks t fd from offset)
 once_seek t fd from offset = once_described t fd _ (λ f. once_two t _ _ EINVAL EOVERFLOW _ (once_changes _ _ _))
 
-pub once_ftruncate : (limits : Limits) (t : Tree) (fd : ℕ) (size : ℤ) → Once (descriptors.truncates_open limits t fd size)
-once_ftruncate limits t fd size = once_described t fd _ (λ f. once_tested t ((not f.writes, EINVAL) ∷ changing.size_tests limits size) (changing.truncates_file t f.number (nat_abs size)) (once_changes _ _ _))
+pub once_ftruncate : (limits : Limits) (now : Option Time) (t : Tree) (fd : ℕ) (size : ℤ) → Once (descriptors.truncates_open limits now t fd size)
+once_ftruncate limits now t fd size = once_described t fd _ (λ f. once_tested t ((not f.writes, EINVAL) ∷ changing.size_tests limits size) (changing.truncates_file now t f.number (nat_abs size)) (once_changes _ _ _))
+
+pub once_fchmod : (now : Option Time) (t : Tree) (fd mode : ℕ) → Once (descriptors.changes_open_mode now t fd mode)
+once_fchmod now t fd mode = once_described t fd _ (λ f. once_changes _ _ _)
 
 pub once_fstat : (t : Tree) (fd : ℕ) → Once (descriptors.stats_open t fd)
 once_fstat t fd = once_described t fd _ (λ f. once_tells t (file f.number))
@@ -424,21 +428,21 @@ once_fstat t fd = once_described t fd _ (λ f. once_tells t (file f.number))
 pub once_fsync : (t : Tree) (fd : ℕ) → Once (descriptors.syncs_open t fd)
 once_fsync t fd = once_described t fd _ (λ f. once_answers t _)
 
-pub once_path : (limits : Limits) (t : Tree) (c : PathCall) → Once (calls limits t c)
-once_path limits t (call.List path) = once_list limits t path
-once_path limits t (call.Entries path after count) = once_entries limits t path after count
-once_path limits t (call.Stat path) = once_stat limits t true path
-once_path limits t (call.Lstat path) = once_stat limits t false path
-once_path limits t (call.Readlink path) = once_readlink limits t path
-once_path limits t (call.Get path offset count) = once_get limits t path offset count
-once_path limits t (call.Mkdir path mode) = once_creates limits t path (λ p n. with_directory p n mode)
-once_path limits t (call.Rmdir path) = once_rmdir limits t path
-once_path limits t (call.Unlink path) = once_unlink limits t path
-once_path limits t (call.Link old path) = once_link limits t old path
-once_path limits t (call.Symlink text path) = once_symlink limits t text path
-once_path limits t (call.Rename old path) = once_rename limits t false old path
-once_path limits t (call.RenameNew old path) = once_rename limits t true old path
-once_path limits t (call.Chmod path mode) = once_chmod limits t path mode
-once_path limits t (call.Truncate path size) = once_truncate limits t path size
-once_path limits t (call.Store path offset given) = once_store limits t path offset given
-once_path limits t (call.Set path settings) = once_set limits t path settings
+pub once_path : (limits : Limits) (now : Option Time) (t : Tree) (c : PathCall) → Once (calls limits now t c)
+once_path limits now t (call.List path) = once_list limits t path
+once_path limits now t (call.Entries path after count) = once_entries limits t path after count
+once_path limits now t (call.Stat path) = once_stat limits t true path
+once_path limits now t (call.Lstat path) = once_stat limits t false path
+once_path limits now t (call.Readlink path) = once_readlink limits t path
+once_path limits now t (call.Get path offset count) = once_get limits t path offset count
+once_path limits now t (call.Mkdir path mode) = once_creates limits now t path (λ p n. with_directory p n mode)
+once_path limits now t (call.Rmdir path) = once_rmdir limits now t path
+once_path limits now t (call.Unlink path) = once_unlink limits now t path
+once_path limits now t (call.Link old path) = once_link limits now t old path
+once_path limits now t (call.Symlink text path) = once_symlink limits now t text path
+once_path limits now t (call.Rename old path) = once_rename limits now t false old path
+once_path limits now t (call.RenameNew old path) = once_rename limits now t true old path
+once_path limits now t (call.Chmod path mode) = once_chmod limits now t path mode
+once_path limits now t (call.Truncate path size) = once_truncate limits now t path size
+once_path limits now t (call.Store path offset given) = once_store limits now t path offset given
+once_path limits now t (call.Set path settings) = once_set limits now t path settings

@@ -1,6 +1,6 @@
 -- Own refusals, none of which tells of devices, memory or room: the steps that calls are told by.
 use Rattle.std.proofs.Common.{◌≡◌, inl, inr, ℕ, zero, suc, List, [], ◌∷◌, ◌++◌, Bool, true, false, not, ◌&&◌, ◌||◌, cond, Option, Some, None, refl, sym, ap, subst, ◌∙◌}
-use Rattle.std.specs.Prelude.{if◌then◌else◌, nat_le, length, ◌+◌}
+use Rattle.std.specs.Prelude.{if◌then◌else◌, nat_le, length}
 use Rattle.std.proofs.lemmas.Bool.{cond_both}
 use Rattle.model.specs.declared.limits.Limits.{Limits}
 use Rattle.model.specs.declared.limits.TheConstants.{LINKS_FOLLOWED}

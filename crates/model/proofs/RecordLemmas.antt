@@ -8,12 +8,15 @@ use Rattle.model.specs.declared.attributes.Attributes.{Attributes}
 use Rattle.model.specs.declared.limits.TheConstants.{OPEN_FILES}
 use Rattle.model.specs.Attributes.{no_attributes, set_mode}
 use Rattle.model.specs.Paths.{Name, Path}
+use Rattle.model.specs.declared.attributes.Touch.TheVariants.{Data, Status}
+use Rattle.model.specs.declared.time.Time.{Time}
+use Rattle.model.specs.Touches.{Touches, touches_entry, touches_move, touches_object}
 use Rattle.model.specs.Trees as trees
 use Rattle.model.specs.Trees.{Tree, Description}
-use Rattle.model.specs.Edits.{changing_attributes, contents, resized, written, put_at, without_object, with_mode, with_bytes}
+use Rattle.model.specs.Edits.{changing_attributes, contents, resized, written, put_at, without_object, with_mode, with_bytes, marked, moved, IsSwept}
 use Rattle.model.specs.Volumes.{Node, directory_node, file_node, link_node, Volume, names_in, entries, number_at, object_of, object_at, attributes_of, bytes_of_node, tree_of, with_node, set_name, with_entry, is_file_node, is_directory_node, is_orphan, IsGraph, IsVolume, with_name_more, released, created, linked, unnamed, is_open, swept_node, swept, IsMounted}
-use Rattle.model.specs.Records.{Made, file, directory, symbolic_link, Change, create, link, remove_name, rename, write, truncate, change_mode, set_file, node_of, with_file_bytes, with_node_attributes, with_size, with_bits, applied, CanCreate, CanLink, Applies}
-use Rattle.model.specs.Changes.{IsAt, with_made, ChangesTree, TakesFreeNumber}
+use Rattle.model.specs.Records.{Made, file, directory, symbolic_link, Edit, create, link, remove_name, rename, write, truncate, change_mode, set_file, node_of, with_file_bytes, with_node_attributes, with_size, with_bits, edited, touches_of, applied, CanCreate, CanLink, CanEdit}
+use Rattle.model.specs.Changes.{IsAt, with_made, ChangesBy, ChangesTree, TakesFree}
 use Rattle.model.specs.Laws.{RecordsChangeTrees, VolumesAreTrees}
 use Rattle.model.proofs.VolumeLemmas.{enters_directory}
 use Rattle.model.proofs.KeptLemmas.{Kept, kept_through, entry_keeps, released_keeps, keeps, node-here}
@@ -23,7 +26,8 @@ use Rattle.model.proofs.SweepLemmas.{swept_from, stays_open, found_open}
 use Rattle.model.proofs.RenameLemmas.{renamed_swept}
 use Rattle.model.proofs.OnceLemmas.{trees_same}
 use Rattle.model.proofs.AddLemmas.{more_kept, vacant_unnamed}
-use Rattle.model.proofs.MoveLemmas.{records_keep_volumes as keeps_volumes, path_to, from_path, to_path, is_move, made_bare, bytes_names, bytes_by, attributes_names, attributes_file}
+use Rattle.model.proofs.MoveLemmas.{edits_keep_volumes, path_to, from_path, to_path, is_move, made_bare, bytes_names, bytes_by, attributes_names, attributes_file}
+use Rattle.model.proofs.MarkLemmas.{attributes_bytes, attributes_object, attributes_orphan, is_swept-marked, marked_file, number_by_name, swept_tree-marked}
 use Rattle.model.proofs.MountedLemmas.{tree_of_is_tree, node_file}
 use Rattle.model.proofs.ObjectLaws.{directory_object, node_other}
 
@@ -94,13 +98,6 @@ bytes_orphan f (Some (directory_node attributes names)) = refl
 bytes_orphan f (Some (file_node attributes zero bytes)) = refl
 bytes_orphan f (Some (file_node attributes (suc links) bytes)) = refl
 bytes_orphan f (Some (link_node attributes text)) = refl
-
-attributes_orphan : (f : Attributes → Attributes) (o : Option Node) → is_orphan (with_node_attributes f o) ≡ is_orphan o
-attributes_orphan f None = refl
-attributes_orphan f (Some (directory_node attributes names)) = refl
-attributes_orphan f (Some (file_node attributes zero bytes)) = refl
-attributes_orphan f (Some (file_node attributes (suc links) bytes)) = refl
-attributes_orphan f (Some (link_node attributes text)) = refl
 
 -- a choice by a test, through a function
 chosen : {X Y : Type 0} (f : X → Y) (b : Bool) (x y : X) → f (if b then x else y) ≡ (if b then f x else f y)
@@ -182,23 +179,11 @@ module _ (limits : Limits) (v : Volume) (volume : IsVolume limits v) (table : �
         (fun_ext (λ k. chosen bytes_of_node (k == n) (with_file_bytes f (v n)) (v k) ∙ ap (λ b. if k == n then b else before.bytes k) (bytes_here f (v n) is)))
         (fun_ext (λ k. by_node n (with_file_bytes f (v n)) (bytes_names f (v n)) (bytes_object f (v n)) (bytes_orphan f (v n)) attributes_of (bytes_attributes f (v n)) k)) refl
 
-  attributes_object : (f : Attributes → Attributes) (o : Option Node) (m : ℕ) → object_of m (with_node_attributes f o) ≡ object_of m o
-  attributes_object f None m = refl
-  attributes_object f (Some (directory_node attributes names)) m = refl
-  attributes_object f (Some (file_node attributes links bytes)) m = refl
-  attributes_object f (Some (link_node attributes text)) m = refl
-
   attributes_here : (f : Attributes → Attributes) (o : Option Node) → is_some o ≡ true → attributes_of (with_node_attributes f o) ≡ Some (f (unwrap_or (attributes_of o) no_attributes))
   attributes_here f None is = absurd (false≢true is)
   attributes_here f (Some (directory_node attributes names)) is = refl
   attributes_here f (Some (file_node attributes links bytes)) is = refl
   attributes_here f (Some (link_node attributes text)) is = refl
-
-  attributes_bytes : (f : Attributes → Attributes) (o : Option Node) → bytes_of_node (with_node_attributes f o) ≡ bytes_of_node o
-  attributes_bytes f None = refl
-  attributes_bytes f (Some (directory_node attributes names)) = refl
-  attributes_bytes f (Some (file_node attributes links bytes)) = refl
-  attributes_bytes f (Some (link_node attributes text)) = refl
 
   -- an object's attributes change
   module _ (n : ℕ) (f : Attributes → Attributes) (is : is_some (v n) ≡ true) where
@@ -218,7 +203,7 @@ either_there None is = is
 either_there (Some o) is = refl
 
 -- a size changes, and then a mode
-module _ (limits : Limits) (v : Volume) (volume : IsVolume limits v) (table : ℕ → Option Description) (mounted : IsMounted v table) (n mode size : ℕ) (can : Applies limits v (set_file n mode size)) where
+module _ (limits : Limits) (v : Volume) (volume : IsVolume limits v) (table : ℕ → Option Description) (mounted : IsMounted v table) (n mode size : ℕ) (can : CanEdit limits v (set_file n mode size)) where
   abbrev sized : Volume
   sized = with_size n size v
 
@@ -233,7 +218,7 @@ module _ (limits : Limits) (v : Volume) (volume : IsVolume limits v) (table : �
   sized_mounted = subst (λ (w : Volume). IsMounted w table) sized_swept (still_mounted v sized table mounted sized_file)
 
   sized_volume : IsVolume limits sized
-  sized_volume = keeps_volumes limits v (truncate n size) volume (can.0, can.2)
+  sized_volume = edits_keep_volumes limits v (truncate n size) volume (can.0, can.2)
 
   sized_has : is_some (sized n) ≡ true
   sized_has = either_there (sized n) (ap (λ b. b || is_directory_node (sized n)) (sized_file n can.0))
@@ -247,7 +232,7 @@ module _ (limits : Limits) (v : Volume) (volume : IsVolume limits v) (table : �
 
   set_files : (k : ℕ) → is_file_node (v k) ≡ true → is_file_node (with_bits n mode sized k) ≡ true
   set_files k is =
-      by_node limits sized sized_volume table sized_mounted n (with_node_attributes (set_mode mode) (sized n)) (attributes_names (set_mode mode) (sized n)) (attributes_object limits sized sized_volume table sized_mounted (set_mode mode) (sized n)) (attributes_orphan (set_mode mode) (sized n)) is_file_node (attributes_file (set_mode mode) (sized n)) k
+      by_node limits sized sized_volume table sized_mounted n (with_node_attributes (set_mode mode) (sized n)) (attributes_names (set_mode mode) (sized n)) (attributes_object (set_mode mode) (sized n)) (attributes_orphan (set_mode mode) (sized n)) is_file_node (attributes_file (set_mode mode) (sized n)) k
       ∙ sized_file k is
 
 module _ (limits : Limits) (v : Volume) (volume : IsVolume limits v) (table : ℕ → Option Description) (mounted : IsMounted v table) where
@@ -358,8 +343,8 @@ module _ (limits : Limits) (v : Volume) (volume : IsVolume limits v) (table : �
     linked_swept : swept table linked_now ≡ linked_now
     linked_swept = unswept v linked_now table mounted linked_named
 
-  -- what a record does to the tree
-  changes_tree : (change : Change) → Applies limits v change → TakesFreeNumber v change → ChangesTree change t (tree_of (swept table (applied change v)) table)
+  -- what a record does to the tree, but for the times
+  changes_tree : (edit : Edit) → CanEdit limits v edit → TakesFree v edit → ChangesBy None edit t (tree_of (swept table (edited edit v)) table)
   changes_tree (create number parent made name) can free =
       let place = path_to v graph parent can.takes.directory in
       (place.0, is_at place.0 parent place.1 can.takes.directory, ap (λ w. tree_of w table) (created_swept number parent made name can free) ∙ makes_tree number parent made name can free)
@@ -393,7 +378,7 @@ module _ (limits : Limits) (v : Volume) (volume : IsVolume limits v) (table : �
   changes_tree (set_file number mode size) can free = set_tree limits v volume table mounted number mode size can
 
   -- what was a file is one still
-  files_stay : (change : Change) → Applies limits v change → TakesFreeNumber v change → (n : ℕ) → is_file_node (v n) ≡ true → is_file_node (applied change v n) ≡ true
+  files_stay : (edit : Edit) → CanEdit limits v edit → TakesFree v edit → (n : ℕ) → is_file_node (v n) ≡ true → is_file_node (edited edit v n) ≡ true
   files_stay (create number parent made name) can free n is = created_files number parent made name can free n is
   files_stay (link number parent name) can free n is = (link_kept number parent name can n).file ∙ is
   files_stay (remove_name parent name) can free n is =
@@ -408,14 +393,42 @@ module _ (limits : Limits) (v : Volume) (volume : IsVolume limits v) (table : �
   files_stay (truncate number size) can free n is =
       by_node limits v volume table mounted number (with_file_bytes (resized size) (v number)) (bytes_names (resized size) (v number)) (bytes_object limits v volume table mounted (resized size) (v number)) (bytes_orphan (resized size) (v number)) is_file_node (bytes_by is_file_node (λ attributes links a b. refl) (resized size) (v number)) n ∙ is
   files_stay (change_mode number mode) can free n is =
-      by_node limits v volume table mounted number (with_node_attributes (set_mode mode) (v number)) (attributes_names (set_mode mode) (v number)) (attributes_object limits v volume table mounted (set_mode mode) (v number)) (attributes_orphan (set_mode mode) (v number)) is_file_node (attributes_file (set_mode mode) (v number)) n ∙ is
+      by_node limits v volume table mounted number (with_node_attributes (set_mode mode) (v number)) (attributes_names (set_mode mode) (v number)) (attributes_object (set_mode mode) (v number)) (attributes_orphan (set_mode mode) (v number)) is_file_node (attributes_file (set_mode mode) (v number)) n ∙ is
   files_stay (set_file number mode size) can free n is = set_files limits v volume table mounted number mode size can n is
 
+  -- and with the times
+  changes_marked : (time : Option Time) (edit : Edit) (after : Tree) → ChangesBy None edit t after → ChangesBy time edit t (marked time (touches_of edit v) after)
+  changes_marked time (create number parent made name) after (p, stands, is) = (p, stands, ap (marked time (touches_entry Data (Some number) (Some parent))) is)
+  changes_marked time (link number parent name) after (p, stands, is) = (p, stands, ap (marked time (touches_entry Status (Some number) (Some parent))) is)
+  changes_marked time (remove_name parent name) after (p, stands, is) = (
+    p,
+    stands,
+    subst (λ o. IsSwept (marked time (touches_entry Status o (Some parent)) (without_object (p ++ name ∷ []) t)) (marked time (touches_of (remove_name parent name) v) after))
+        (sym (number_by_name v graph.naming table p parent name stands))
+        (is_swept-marked time (touches_of (remove_name parent name) v) (without_object (p ++ name ∷ []) t) after is),
+  )
+  changes_marked time (rename parent name new_parent new_name) after (p, q, stands, stands_too, is) = (
+    p,
+    q,
+    stands,
+    stands_too,
+    subst (λ (touches : Touches). IsSwept (marked time touches (moved (p ++ name ∷ []) (q ++ new_name ∷ []) t)) (marked time (touches_of (rename parent name new_parent new_name) v) after))
+        (λ i. touches_move (sym (number_by_name v graph.naming table p parent name stands) i) (sym (number_by_name v graph.naming table q new_parent new_name stands_too) i) (Some parent) (Some new_parent))
+        (is_swept-marked time (touches_of (rename parent name new_parent new_name) v) (moved (p ++ name ∷ []) (q ++ new_name ∷ []) t) after is),
+  )
+  changes_marked time (write number offset bytes) after is = ap (marked time (touches_object Data number)) is
+  changes_marked time (truncate number size) after is = ap (marked time (touches_object Data number)) is
+  changes_marked time (change_mode number mode) after is = ap (marked time (touches_object Status number)) is
+  changes_marked time (set_file number mode size) after is = ap (marked time (touches_object Data number)) is
+
 pub records_change_trees : RecordsChangeTrees
-records_change_trees limits v table change volume mounted can free = (
-  still_mounted v (applied change v) table mounted (files_stay limits v volume table mounted change can free),
-  changes_tree limits v volume table mounted change can free,
-)
+records_change_trees limits v table change volume mounted can free =
+    let after = edited change.edit v in
+    let touches = touches_of change.edit v in (
+      still_mounted v (applied change v) table mounted (λ n is. marked_file change.time touches after n ∙ files_stay limits v volume table mounted change.edit can.edit free n is),
+      subst (λ (new : Tree). ChangesTree change (tree_of v table) new) (sym (swept_tree-marked change.time touches after table))
+          (changes_marked limits v volume table mounted change.time change.edit (tree_of (swept table after) table) (changes_tree limits v volume table mounted change.edit can.edit free)),
+    )
 
 pub volumes_are_trees : VolumesAreTrees
 volumes_are_trees limits v table volume mounted = tree_of_is_tree limits v volume table mounted

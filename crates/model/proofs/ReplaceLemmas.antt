@@ -9,7 +9,10 @@ use Rattle.model.specs.declared.reply.Reply.TheVariants as reply
 use Rattle.model.specs.Counting.{Counts}
 use Rattle.model.specs.Paths.{Name, Path, IsName, new_text_tests, is_empty, is_root_text, behind, begins_with, path_eq}
 use Rattle.model.specs.Trees.{Tree, Object, directory, symlink, file, is_directory, IsTree}
-use Rattle.model.specs.Edits.{without_object, moved}
+use Rattle.model.specs.declared.time.Time.{Time}
+use Rattle.model.specs.Attributes.{KeepsTime}
+use Rattle.model.specs.Touches.{Touches}
+use Rattle.model.specs.Edits.{without_object, marked, moved}
 use Rattle.model.specs.Resolution.{parent}
 use Rattle.model.specs.Room.{logs, adds_name}
 use Rattle.model.specs.Outcomes.{changes_swept, IsListing}
@@ -20,6 +23,7 @@ use Rattle.model.proofs.WalkLemmas.{behind-is, path_eq-same, same_path, not_push
 use Rattle.model.proofs.VolumeLemmas.{ends}
 use Rattle.model.proofs.LeadLemmas.{directory_some, all_passed, passed_both, not_alone, push_filled, reached_below_root, reached_well, parent-push, stands_in}
 use Rattle.model.proofs.LooseLemmas.{IsLooseTree, tree_is_loose}
+use Rattle.model.proofs.TreeMarkLemmas.{marked_is_loose}
 use Rattle.model.proofs.PlaceLemmas.{put-here, put-other, no_more}
 use Rattle.model.proofs.TakeLemmas.{taken_is_loose}
 use Rattle.model.proofs.RelocateLemmas.{moved_is_loose, moved_over, all_behind}
@@ -86,55 +90,60 @@ module _ (limits : Limits) (t : Tree) (tree : IsTree limits t) where
           omega (arith, fewer.1, counts.2),
         )))
 
-  stays_target : (u w : Path) (a b : Name) (o : Object) → t.objects (u ++ a ∷ []) ≡ Some o → is_directory (t.objects w) ≡ true → IsName b → behind (u ++ a ∷ []) (w ++ b ∷ []) ≡ None → u ++ a ∷ [] ≢ w ++ b ∷ [] → (r : Option Object) → t.objects (w ++ b ∷ []) ≡ r → LeavesTree limits (changing.with_target limits t (u ++ a ∷ []) (w ++ b ∷ []) r (changes_swept reply.Done (moved (u ++ a ∷ []) (w ++ b ∷ []) t) (logs adds_name)))
-  stays_target u w a b o at_p stands good apart other None at_q =
-      stays_either limits t tree (path_eq (parent (u ++ a ∷ [])) (parent (w ++ b ∷ []))) _ _
-      (λ e. stays_swept limits t tree reply.Done _ (logs adds_name) (to_nothing u w a b o at_p stands good apart at_q (λ others. absurd (others (sym (parent-push u a) ∙ same_path (parent (u ++ a ∷ [])) (parent (w ++ b ∷ [])) e ∙ parent-push w b)))))
-      (λ e. stays_place limits t tree (parent (w ++ b ∷ [])) _ (λ names listing room.
-      stays_swept limits t tree reply.Done _ (logs adds_name) (to_nothing u w a b o at_p stands good apart at_q (λ others. (length names, listing_counts t w names (subst (λ v. IsListing t v names) (parent-push w b) listing), room)))))
-  stays_target u w a b o at_p stands good apart other (Some (directory n)) at_q =
-      stays_names limits t tree (w ++ b ∷ []) _ (λ names listing. stays_passed limits t tree ((not (is_empty names), ENOTEMPTY) ∷ []) _ (λ pass.
-      stays_swept limits t tree reply.Done _ (logs adds_name) (over_something u w a b o at_p stands good apart (directory n) at_q (no_names limits t tree (w ++ b ∷ []) names listing pass.0) other)))
-  stays_target u w a b o at_p stands good apart other (Some (symlink n text)) at_q =
-      stays_swept limits t tree reply.Done _ (logs adds_name) (over_something u w a b o at_p stands good apart (symlink n text) at_q (no_directory limits t tree (w ++ b ∷ []) (symlink n text) at_q refl) other)
-  stays_target u w a b o at_p stands good apart other (Some (file n)) at_q =
-      stays_swept limits t tree reply.Done _ (logs adds_name) (over_something u w a b o at_p stands good apart (file n) at_q (no_directory limits t tree (w ++ b ∷ []) (file n) at_q refl) other)
+  -- at a time that the file system may keep
+  module _ (now : Option Time) (timed : KeepsTime limits.has_attributes now) where
+    marks : (touches : Touches) (u : Tree) → IsLooseTree limits u → IsLooseTree limits (marked now touches u)
+    marks touches u = marked_is_loose limits now timed touches u
 
-  stays_moves : (p : Path) (o : Object) (w : Path) (b : Name) → t.objects p ≡ Some o → p ≢ [] → is_directory (t.objects w) ≡ true → IsName b → LeavesTree limits (changing.moves limits t p o (w ++ b ∷ []))
-  stays_moves p o w b at_p low stands good =
-      stays_either limits t tree (path_eq p (w ++ b ∷ []) || changing.is_same_file o (t.objects (w ++ b ∷ []))) _ _ (λ e. stays_same limits t tree reply.Done) (λ e.
-      let apart : path_eq p (w ++ b ∷ []) ≡ false = (or_parts (path_eq p (w ++ b ∷ [])) (changing.is_same_file o (t.objects (w ++ b ∷ []))) e).0 in
-      stays_passed limits t tree (changing.move_tests p o (w ++ b ∷ []) (t.objects (w ++ b ∷ []))) _ (λ pass.
-      by_end (ends p) apart (outside_itself p o (w ++ b ∷ []) w b at_p refl stands apart pass.0)))
-    where
-      by_end : (p ≡ []) ⊎ ((u : Path) × (a : Name) × (p ≡ u ++ a ∷ [])) → path_eq p (w ++ b ∷ []) ≡ false → behind p (w ++ b ∷ []) ≡ None → LeavesTree limits (changing.with_target limits t p (w ++ b ∷ []) (t.objects (w ++ b ∷ [])) (changes_swept reply.Done (moved p (w ++ b ∷ []) t) (logs adds_name)))
-      by_end (inl empty) apart out = absurd (low empty)
-      by_end (inr (u, a, is)) apart out =
-          subst (λ v. LeavesTree limits (changing.with_target limits t v (w ++ b ∷ []) (t.objects (w ++ b ∷ [])) (changes_swept reply.Done (moved v (w ++ b ∷ []) t) (logs adds_name)))) (sym is)
-          (stays_target u w a b o (ap t.objects (sym is) ∙ at_p) stands good (ap (λ v. behind v (w ++ b ∷ [])) (sym is) ∙ out)
-          (λ same. false≢true (sym apart ∙ ap (path_eq p) (sym (is ∙ same)) ∙ path_eq-same p)) (t.objects (w ++ b ∷ [])) refl)
+    stays_target : (touches : Touches) (u w : Path) (a b : Name) (o : Object) → t.objects (u ++ a ∷ []) ≡ Some o → is_directory (t.objects w) ≡ true → IsName b → behind (u ++ a ∷ []) (w ++ b ∷ []) ≡ None → u ++ a ∷ [] ≢ w ++ b ∷ [] → (r : Option Object) → t.objects (w ++ b ∷ []) ≡ r → LeavesTree limits (changing.with_target limits t (u ++ a ∷ []) (w ++ b ∷ []) r (changes_swept reply.Done (marked now touches (moved (u ++ a ∷ []) (w ++ b ∷ []) t)) (logs adds_name)))
+    stays_target touches u w a b o at_p stands good apart other None at_q =
+        stays_either limits t tree (path_eq (parent (u ++ a ∷ [])) (parent (w ++ b ∷ []))) _ _
+        (λ e. stays_swept limits t tree reply.Done _ (logs adds_name) (marks touches _ (to_nothing u w a b o at_p stands good apart at_q (λ others. absurd (others (sym (parent-push u a) ∙ same_path (parent (u ++ a ∷ [])) (parent (w ++ b ∷ [])) e ∙ parent-push w b))))))
+        (λ e. stays_place limits t tree (parent (w ++ b ∷ [])) _ (λ names listing room.
+        stays_swept limits t tree reply.Done _ (logs adds_name) (marks touches _ (to_nothing u w a b o at_p stands good apart at_q (λ others. (length names, listing_counts t w names (subst (λ v. IsListing t v names) (parent-push w b) listing), room))))))
+    stays_target touches u w a b o at_p stands good apart other (Some (directory n)) at_q =
+        stays_names limits t tree (w ++ b ∷ []) _ (λ names listing. stays_passed limits t tree ((not (is_empty names), ENOTEMPTY) ∷ []) _ (λ pass.
+        stays_swept limits t tree reply.Done _ (logs adds_name) (marks touches _ (over_something u w a b o at_p stands good apart (directory n) at_q (no_names limits t tree (w ++ b ∷ []) names listing pass.0) other))))
+    stays_target touches u w a b o at_p stands good apart other (Some (symlink n text)) at_q =
+        stays_swept limits t tree reply.Done _ (logs adds_name) (marks touches _ (over_something u w a b o at_p stands good apart (symlink n text) at_q (no_directory limits t tree (w ++ b ∷ []) (symlink n text) at_q refl) other))
+    stays_target touches u w a b o at_p stands good apart other (Some (file n)) at_q =
+        stays_swept limits t tree reply.Done _ (logs adds_name) (marks touches _ (over_something u w a b o at_p stands good apart (file n) at_q (no_directory limits t tree (w ++ b ∷ []) (file n) at_q refl) other))
 
-  -- to where something is
-  stays_moves_over : (p : Path) (o : Object) (q : Path) (r : Object) → t.objects p ≡ Some o → p ≢ [] → t.objects q ≡ Some r → q ≢ [] → LeavesTree limits (changing.moves limits t p o q)
-  stays_moves_over p o q r at_p low at_q q_low = by_end (ends q)
-    where
-      by_end : (q ≡ []) ⊎ ((w : Path) × (b : Name) × (q ≡ w ++ b ∷ [])) → LeavesTree limits (changing.moves limits t p o q)
-      by_end (inl empty) = absurd (q_low empty)
-      by_end (inr (w, b, is)) =
-          let some : IsSome (t.objects (w ++ b ∷ [])) = ap is_some (ap t.objects (sym is) ∙ at_q) in
-          subst (λ v. LeavesTree limits (changing.moves limits t p o v)) (sym is)
-          (stays_moves p o w b at_p low (stands_in limits t tree w b some) (recursion_from_All IsName (b ∷ []) (all_behind w (b ∷ []) (tree.names (w ++ b ∷ []) some))).0)
+    stays_moves : (p : Path) (o : Object) (w : Path) (b : Name) → t.objects p ≡ Some o → p ≢ [] → is_directory (t.objects w) ≡ true → IsName b → LeavesTree limits (changing.moves limits now t p o (w ++ b ∷ []))
+    stays_moves p o w b at_p low stands good =
+        stays_either limits t tree (path_eq p (w ++ b ∷ []) || changing.is_same_file o (t.objects (w ++ b ∷ []))) _ _ (λ e. stays_same limits t tree reply.Done) (λ e.
+        let apart : path_eq p (w ++ b ∷ []) ≡ false = (or_parts (path_eq p (w ++ b ∷ [])) (changing.is_same_file o (t.objects (w ++ b ∷ []))) e).0 in
+        stays_passed limits t tree (changing.move_tests p o (w ++ b ∷ []) (t.objects (w ++ b ∷ []))) _ (λ pass.
+        by_end _ (ends p) apart (outside_itself p o (w ++ b ∷ []) w b at_p refl stands apart pass.0)))
+      where
+        by_end : (touches : Touches) → (p ≡ []) ⊎ ((u : Path) × (a : Name) × (p ≡ u ++ a ∷ [])) → path_eq p (w ++ b ∷ []) ≡ false → behind p (w ++ b ∷ []) ≡ None → LeavesTree limits (changing.with_target limits t p (w ++ b ∷ []) (t.objects (w ++ b ∷ [])) (changes_swept reply.Done (marked now touches (moved p (w ++ b ∷ []) t)) (logs adds_name)))
+        by_end touches (inl empty) apart out = absurd (low empty)
+        by_end touches (inr (u, a, is)) apart out =
+            subst (λ v. LeavesTree limits (changing.with_target limits t v (w ++ b ∷ []) (t.objects (w ++ b ∷ [])) (changes_swept reply.Done (marked now touches (moved v (w ++ b ∷ []) t)) (logs adds_name)))) (sym is)
+            (stays_target touches u w a b o (ap t.objects (sym is) ∙ at_p) stands good (ap (λ v. behind v (w ++ b ∷ [])) (sym is) ∙ out)
+            (λ same. false≢true (sym apart ∙ ap (path_eq p) (sym (is ∙ same)) ∙ path_eq-same p)) (t.objects (w ++ b ∷ [])) refl)
 
-  pub stays_rename : (only_new : Bool) (old path : List ℕ) → LeavesTree limits (changing.renames limits t only_new old path)
-  stays_rename only_new old path =
-      stays_tested limits t tree (new_text_tests limits old ++ new_text_tests limits path ++ (is_root_text old || is_root_text path, EBUSY) ∷ []) _ (λ e.
-      let texts = passed_both (new_text_tests limits old ++ new_text_tests limits path) ((is_root_text old || is_root_text path, EBUSY) ∷ []) e in
-      let both = passed_both (new_text_tests limits old) (new_text_tests limits path) texts.0 in
-      let roots = or_parts (is_root_text old) (is_root_text path) (all_passed ((is_root_text old || is_root_text path, EBUSY) ∷ []) texts.1).0 in
-      stays_along limits t tree false old _ _ (λ s reached. stays_leads_to limits t tree s _ (reached_well limits t tree (last_tests old) false old both.0 s reached) (λ p o is at_p.
-      let low : p ≢ [] = low_by limits t tree s p (reached_below_root limits t old both.0 roots.0 s reached) is in
-      stays_along limits t tree false path _ _ (λ z at_z. stays_leads limits t tree z _ _ (reached_well limits t tree (last_tests path) false path both.1 z at_z)
-      (λ q r at at_q. stays_passed limits t tree ((only_new, EEXIST) ∷ []) _ (λ pass. stays_moves_over p o q r at_p low at_q (low_by limits t tree z q (reached_below_root limits t path both.1 roots.1 z at_z) at)))
-      (λ q name at misses. stays_moves p o q name at_p low misses.directory misses.good))
-      (λ r alone has. absurd (not_alone limits path both.1 alone))))
-      (λ o alone has. absurd (not_alone limits old both.0 alone)))
+    -- to where something is
+    stays_moves_over : (p : Path) (o : Object) (q : Path) (r : Object) → t.objects p ≡ Some o → p ≢ [] → t.objects q ≡ Some r → q ≢ [] → LeavesTree limits (changing.moves limits now t p o q)
+    stays_moves_over p o q r at_p low at_q q_low = by_end (ends q)
+      where
+        by_end : (q ≡ []) ⊎ ((w : Path) × (b : Name) × (q ≡ w ++ b ∷ [])) → LeavesTree limits (changing.moves limits now t p o q)
+        by_end (inl empty) = absurd (q_low empty)
+        by_end (inr (w, b, is)) =
+            let some : IsSome (t.objects (w ++ b ∷ [])) = ap is_some (ap t.objects (sym is) ∙ at_q) in
+            subst (λ v. LeavesTree limits (changing.moves limits now t p o v)) (sym is)
+            (stays_moves p o w b at_p low (stands_in limits t tree w b some) (recursion_from_All IsName (b ∷ []) (all_behind w (b ∷ []) (tree.names (w ++ b ∷ []) some))).0)
+
+    pub stays_rename : (only_new : Bool) (old path : List ℕ) → LeavesTree limits (changing.renames limits now t only_new old path)
+    stays_rename only_new old path =
+        stays_tested limits t tree (new_text_tests limits old ++ new_text_tests limits path ++ (is_root_text old || is_root_text path, EBUSY) ∷ []) _ (λ e.
+        let texts = passed_both (new_text_tests limits old ++ new_text_tests limits path) ((is_root_text old || is_root_text path, EBUSY) ∷ []) e in
+        let both = passed_both (new_text_tests limits old) (new_text_tests limits path) texts.0 in
+        let roots = or_parts (is_root_text old) (is_root_text path) (all_passed ((is_root_text old || is_root_text path, EBUSY) ∷ []) texts.1).0 in
+        stays_along limits t tree false old _ _ (λ s reached. stays_leads_to limits t tree s _ (reached_well limits t tree (last_tests old) false old both.0 s reached) (λ p o is at_p.
+        let low : p ≢ [] = low_by limits t tree s p (reached_below_root limits t old both.0 roots.0 s reached) is in
+        stays_along limits t tree false path _ _ (λ z at_z. stays_leads limits t tree z _ _ (reached_well limits t tree (last_tests path) false path both.1 z at_z)
+        (λ q r at at_q. stays_passed limits t tree ((only_new, EEXIST) ∷ []) _ (λ pass. stays_moves_over p o q r at_p low at_q (low_by limits t tree z q (reached_below_root limits t path both.1 roots.1 z at_z) at)))
+        (λ q name at misses. stays_moves p o q name at_p low misses.directory misses.good))
+        (λ r alone has. absurd (not_alone limits path both.1 alone))))
+        (λ o alone has. absurd (not_alone limits old both.0 alone)))

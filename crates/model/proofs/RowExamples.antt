@@ -1,5 +1,5 @@
 -- Worked rows of commands with their replies, on trees.
-use Rattle.std.proofs.Common.{◌≡◌, ℕ, List, [], ◌∷◌, ◌++◌, true, false, refl, replicate, Some, None}
+use Rattle.std.proofs.Common.{◌≡◌, ℕ, List, [], ◌∷◌, ◌++◌, true, false, refl, replicate, Some, None, lit≤}
 use Rattle.std.specs.Prelude.{codes, pos, negsuc, nat_lt, if◌then◌else◌}
 use Rattle.model.specs.declared.errno.Errno.TheVariants.{ENOENT, ENOTDIR, EISDIR, EEXIST, EINVAL, ENAMETOOLONG, EPERM, EBUSY, EBADF, EFBIG, EMFILE, EOVERFLOW}
 use Rattle.model.specs.declared.reply.Reply.TheVariants as reply
@@ -7,14 +7,21 @@ use Rattle.model.specs.declared.reply.FileType.TheVariants as kind
 use Rattle.model.specs.declared.command.Whence.TheVariants as whence
 use Rattle.model.specs.declared.command.Access.TheVariants as access
 use Rattle.model.specs.declared.command.Flags.{Flags}
+use Rattle.model.specs.declared.attributes.Attributes.{Attributes}
+use Rattle.model.specs.declared.attributes.Touch.TheVariants.{Data, Status}
+use Rattle.model.specs.declared.time.Time.{Time}
+use Rattle.model.specs.Attributes.{new_attributes}
+use Rattle.model.specs.Touches.{touches_move, touches_object}
+use Rattle.model.specs.Paths.{Path}
 use Rattle.model.specs.Trees.{Tree, Description, directory, symlink, file, root_alone}
-use Rattle.model.specs.Edits.{with_object, without_object, with_directory, with_file, with_bytes, with_descriptor, moved}
+use Rattle.model.specs.Edits.{with_object, without_object, with_directory, with_file, with_bytes, with_descriptor, marked, moved}
 use Rattle.model.specs.Resolution.{resolve, named, missing, refused}
 use Rattle.model.specs.Room.{nothing, logs, adds_name, removes_name, puts_bytes, changes_size, changes_bits, cost, headroom}
 use Rattle.model.specs.Reading.{stats, reads_link, gets}
-use Rattle.model.specs.Changing.{makes_directory, makes_symlink, removes_directory, unlinks, links, renames}
+use Rattle.model.specs.Changing.{entered, makes_directory, makes_symlink, removes_directory, unlinks, links, renames}
 use Rattle.model.specs.Descriptors.{opens, closes, reads, reads_from, writes, writes_to, seeks, truncates_open}
-use Rattle.model.proofs.ExampleLimits.{costs, limits}
+use Rattle.model.proofs.ToldLemmas.{Told, told_root, told_directory, told_moved, told_touched, moved_paths, listing_told, fresh_told, used_alone}
+use Rattle.model.proofs.ExampleLimits.{costs, limits, timed_limits}
 
 abbrev fresh : Tree
 fresh = root_alone 0o755
@@ -36,22 +43,22 @@ a_slash_last = (refl, refl, refl)
 two_slashes_alone : stats limits fresh true (codes "//") (reply.Refused EINVAL) fresh nothing
 two_slashes_alone = (refl, refl, refl)
 
-a_dot_last : makes_directory limits fresh (codes "/a/.") 0o755 (reply.Refused EINVAL) fresh nothing
+a_dot_last : makes_directory limits None fresh (codes "/a/.") 0o755 (reply.Refused EINVAL) fresh nothing
 a_dot_last = (refl, refl, refl)
 
-the_root_is_there : makes_directory limits fresh (codes "/") 0o755 (reply.Refused EEXIST) fresh nothing
+the_root_is_there : makes_directory limits None fresh (codes "/") 0o755 (reply.Refused EEXIST) fresh nothing
 the_root_is_there = (refl, refl, refl)
 
-the_root_stays : removes_directory limits fresh (codes "/") (reply.Refused EBUSY) fresh nothing
+the_root_stays : removes_directory limits None fresh (codes "/") (reply.Refused EBUSY) fresh nothing
 the_root_stays = (refl, refl, refl)
 
-a_name_of_256_bytes : makes_directory limits fresh (codes "/" ++ replicate 256 97) 0o755 (reply.Refused ENAMETOOLONG) fresh nothing
+a_name_of_256_bytes : makes_directory limits None fresh (codes "/" ++ replicate 256 97) 0o755 (reply.Refused ENAMETOOLONG) fresh nothing
 a_name_of_256_bytes = (refl, refl, refl)
 
 a_path_of_1024_bytes : stats limits fresh true (replicate 1024 47) (reply.Refused ENAMETOOLONG) fresh nothing
 a_path_of_1024_bytes = (refl, refl, refl)
 
-opens_the_root : opens false 32 limits fresh (codes "/") reading 0o644 (reply.Refused EISDIR) fresh nothing
+opens_the_root : opens false 32 limits None fresh (codes "/") reading 0o644 (reply.Refused EISDIR) fresh nothing
 opens_the_root = (refl, refl, refl)
 
 closes_nothing : closes fresh 0 (reply.Refused EBADF) fresh nothing
@@ -103,10 +110,10 @@ stat_of_a_link = (1, refl, (refl, refl, refl))
 stat_of_what_it_names : stats limits linked true (codes "/l") (reply.Stat (record { number = 5; kind = kind.Dir; mode = 0o755; links = 1; size = 0 })) linked nothing
 stat_of_what_it_names = (1, refl, (refl, refl, refl))
 
-text_before_path : makes_symlink limits linked [] [] (reply.Refused ENOENT) linked nothing
+text_before_path : makes_symlink limits None linked [] [] (reply.Refused ENOENT) linked nothing
 text_before_path = (refl, refl, refl)
 
-links_a_link : links limits linked (codes "/l") (codes "/m") (reply.Refused EPERM) linked nothing
+links_a_link : links limits None linked (codes "/l") (codes "/m") (reply.Refused EPERM) linked nothing
 links_a_link = (refl, refl, refl)
 
 -- `open /f rwc`, `lseek 0 set 10`, `read 0 5`, `lseek 0 cur -11`, `write 0 2a`, `pread 0 8 9`
@@ -126,7 +133,7 @@ reads_past_the_end = (refl, refl, refl)
 seeks_below_zero : seeks (file_of [] 10) 0 whence.Cur (negsuc 10) (reply.Refused EINVAL) (file_of [] 10) nothing
 seeks_below_zero = (refl, refl, refl)
 
-writes_past_the_end : writes limits (file_of [] 10) 0 (42 ∷ []) (reply.Wrote 1) (with_descriptor 0 (Some (at_offset 11)) (with_bytes 4 (replicate 10 0 ++ 42 ∷ []) (file_of [] 10))) (logs (puts_bytes 0 10 1))
+writes_past_the_end : writes limits None (file_of [] 10) 0 (42 ∷ []) (reply.Wrote 1) (with_descriptor 0 (Some (at_offset 11)) (with_bytes 4 (replicate 10 0 ++ 42 ∷ []) (file_of [] 10))) (logs (puts_bytes 0 10 1))
 writes_past_the_end = (refl, refl, refl)
 
 reads_the_gap : reads_from (file_of (replicate 10 0 ++ 42 ∷ []) 11) 0 (pos 8) 9 (reply.Data (0 ∷ 0 ∷ 42 ∷ [])) (file_of (replicate 10 0 ++ 42 ∷ []) 11) nothing
@@ -134,13 +141,13 @@ reads_the_gap = (refl, refl, refl)
 
 -- 128 bytes, one more, truncated again: the first 128 stay
 
-truncated_back : truncates_open limits (file_of (replicate 128 97 ++ 98 ∷ []) 129) 0 (pos 128) reply.Done (with_bytes 4 (replicate 128 97) (file_of (replicate 128 97 ++ 98 ∷ []) 129)) (logs (changes_size 129 128))
+truncated_back : truncates_open limits None (file_of (replicate 128 97 ++ 98 ∷ []) 129) 0 (pos 128) reply.Done (with_bytes 4 (replicate 128 97) (file_of (replicate 128 97 ++ 98 ∷ []) 129)) (logs (changes_size 129 128))
 truncated_back = (refl, refl, refl)
 
 reads_the_last : reads_from (file_of (replicate 128 97) 129) 0 (pos 127) 5 (reply.Data (97 ∷ [])) (file_of (replicate 128 97) 129) nothing
 reads_the_last = (refl, refl, refl)
 
-too_large : truncates_open limits (file_of [] 0) 0 (pos 68719476737) (reply.Refused EFBIG) (file_of [] 0) nothing
+too_large : truncates_open limits None (file_of [] 0) 0 (pos 68719476737) (reply.Refused EFBIG) (file_of [] 0) nothing
 too_large = (refl, refl, refl)
 
 too_many_at_once : gets limits (file_of [] 0) (codes "/f") (pos 0) 65537 (reply.Refused EINVAL) (file_of [] 0) nothing
@@ -184,13 +191,13 @@ stat_through_the_link = (1, refl, (refl, refl, refl))
 lstat_of_the_link : stats limits renamed false (codes "/l") (reply.Stat (record { number = 7; kind = kind.Link; mode = 0o777; links = 1; size = 8 })) renamed nothing
 lstat_of_the_link = (1, refl, (refl, refl, refl))
 
-link_onto_directory : renames limits renamed false (codes "/l") (codes "/c") (reply.Refused EISDIR) renamed nothing
+link_onto_directory : renames limits None renamed false (codes "/l") (codes "/c") (reply.Refused EISDIR) renamed nothing
 link_onto_directory = (refl, refl, refl)
 
-directory_onto_link : renames limits renamed false (codes "/c") (codes "/l") (reply.Refused ENOTDIR) renamed nothing
+directory_onto_link : renames limits None renamed false (codes "/c") (codes "/l") (reply.Refused ENOTDIR) renamed nothing
 directory_onto_link = (refl, refl, refl)
 
-unlink_of_a_directory : unlinks limits renamed (codes "/c") (reply.Refused EPERM) renamed nothing
+unlink_of_a_directory : unlinks limits None renamed (codes "/c") (reply.Refused EPERM) renamed nothing
 unlink_of_a_directory = (refl, refl, refl)
 
 text_of_the_link : reads_link limits renamed (codes "/l") (reply.Text (codes "c/../c/b")) renamed nothing
@@ -205,10 +212,10 @@ link_to_what_is_gone = (refl, refl, refl)
 abbrev two_names : Tree
 two_names = with_object (codes "y" ∷ []) (file 5) (with_file (codes "x" ∷ []) 5 0o644 (with_directory (codes "d" ∷ []) 4 0o755 fresh))
 
-onto_the_same_file : renames limits two_names false (codes "/x") (codes "/y") reply.Done two_names nothing
+onto_the_same_file : renames limits None two_names false (codes "/x") (codes "/y") reply.Done two_names nothing
 onto_the_same_file = (refl, refl, refl)
 
-below_itself : renames limits two_names false (codes "/d") (codes "/d/e") (reply.Refused EINVAL) two_names nothing
+below_itself : renames limits None two_names false (codes "/d") (codes "/d/e") (reply.Refused EINVAL) two_names nothing
 below_itself = (refl, refl, refl)
 
 -- `open /f rwca`, `write 0 6162`, `pwrite 0 0 63`, `pread 0 0 5`, `lseek 0 set 0`, `write 0 64`, `read 0 5`
@@ -219,25 +226,25 @@ appending offset = record { number = 4; offset = offset; reads = true; writes = 
 abbrev log_of : List ℕ → ℕ → Tree
 log_of bytes offset = with_descriptor 0 (Some (appending offset)) (with_bytes 4 bytes (with_file (codes "f" ∷ []) 4 0o644 fresh))
 
-appends_two : writes limits (log_of [] 0) 0 (0x61 ∷ 0x62 ∷ []) (reply.Wrote 2) (with_descriptor 0 (Some (appending 2)) (with_bytes 4 (0x61 ∷ 0x62 ∷ []) (log_of [] 0))) (logs (puts_bytes 0 0 2))
+appends_two : writes limits None (log_of [] 0) 0 (0x61 ∷ 0x62 ∷ []) (reply.Wrote 2) (with_descriptor 0 (Some (appending 2)) (with_bytes 4 (0x61 ∷ 0x62 ∷ []) (log_of [] 0))) (logs (puts_bytes 0 0 2))
 appends_two = (refl, refl, refl)
 
-writes_to_the_start : writes_to limits (log_of (0x61 ∷ 0x62 ∷ []) 2) 0 (pos 0) (0x63 ∷ []) (reply.Wrote 1) (with_bytes 4 (0x63 ∷ 0x62 ∷ []) (log_of (0x61 ∷ 0x62 ∷ []) 2)) (logs (puts_bytes 2 0 1))
+writes_to_the_start : writes_to limits None (log_of (0x61 ∷ 0x62 ∷ []) 2) 0 (pos 0) (0x63 ∷ []) (reply.Wrote 1) (with_bytes 4 (0x63 ∷ 0x62 ∷ []) (log_of (0x61 ∷ 0x62 ∷ []) 2)) (logs (puts_bytes 2 0 1))
 writes_to_the_start = (refl, refl, refl)
 
 reads_both : reads_from (log_of (0x63 ∷ 0x62 ∷ []) 2) 0 (pos 0) 5 (reply.Data (0x63 ∷ 0x62 ∷ [])) (log_of (0x63 ∷ 0x62 ∷ []) 2) nothing
 reads_both = (refl, refl, refl)
 
-appends_from_the_start : writes limits (log_of (0x63 ∷ 0x62 ∷ []) 0) 0 (0x64 ∷ []) (reply.Wrote 1) (with_descriptor 0 (Some (appending 3)) (with_bytes 4 (0x63 ∷ 0x62 ∷ 0x64 ∷ []) (log_of (0x63 ∷ 0x62 ∷ []) 0))) (logs (puts_bytes 2 2 1))
+appends_from_the_start : writes limits None (log_of (0x63 ∷ 0x62 ∷ []) 0) 0 (0x64 ∷ []) (reply.Wrote 1) (with_descriptor 0 (Some (appending 3)) (with_bytes 4 (0x63 ∷ 0x62 ∷ 0x64 ∷ []) (log_of (0x63 ∷ 0x62 ∷ []) 0))) (logs (puts_bytes 2 2 1))
 appends_from_the_start = (refl, refl, refl)
 
 reads_behind_the_end : reads (log_of (0x63 ∷ 0x62 ∷ 0x64 ∷ []) 3) 0 5 (reply.Data []) (with_descriptor 0 (Some (appending 3)) (log_of (0x63 ∷ 0x62 ∷ 0x64 ∷ []) 3)) nothing
 reads_behind_the_end = (refl, refl, refl)
 
-creates_what_is_there : opens false 32 limits (log_of [] 0) (codes "/f") (record reading { creates = true; exclusive = true }) 0o644 (reply.Refused EEXIST) (log_of [] 0) nothing
+creates_what_is_there : opens false 32 limits None (log_of [] 0) (codes "/f") (record reading { creates = true; exclusive = true }) 0o644 (reply.Refused EEXIST) (log_of [] 0) nothing
 creates_what_is_there = (refl, refl, refl)
 
-grown_by_zeros : truncates_open limits (file_of [] 0) 0 (pos 3) reply.Done (with_bytes 4 (0 ∷ 0 ∷ 0 ∷ []) (file_of [] 0)) (logs (changes_size 0 3))
+grown_by_zeros : truncates_open limits None (file_of [] 0) 0 (pos 3) reply.Done (with_bytes 4 (0 ∷ 0 ∷ 0 ∷ []) (file_of [] 0)) (logs (changes_size 0 3))
 grown_by_zeros = (refl, refl, refl)
 
 gets_zeros : gets limits (file_of (0 ∷ 0 ∷ 0 ∷ []) 0) (codes "/f") (pos 0) 9 (reply.Data (0 ∷ 0 ∷ 0 ∷ [])) (file_of (0 ∷ 0 ∷ 0 ∷ []) 0) nothing
@@ -254,7 +261,7 @@ seeks_farthest = (refl, refl, refl)
 seeks_farther : seeks far 0 whence.Cur (pos 1) (reply.Refused EOVERFLOW) far nothing
 seeks_farther = (refl, refl, refl)
 
-writes_too_far : writes limits far 0 (0 ∷ []) (reply.Refused EFBIG) far nothing
+writes_too_far : writes limits None far 0 (0 ∷ []) (reply.Refused EFBIG) far nothing
 writes_too_far = (refl, refl, refl)
 
 -- 32 descriptors are open
@@ -262,5 +269,61 @@ writes_too_far = (refl, refl, refl)
 abbrev crowded : Tree
 crowded = record (file_of [] 0) { descriptors = λ d. if nat_lt d 32 then Some (at_offset 0) else None }
 
-one_file_too_many : opens false 32 limits crowded (codes "/f") reading 0o644 (reply.Refused EMFILE) crowded nothing
+one_file_too_many : opens false 32 limits None crowded (codes "/f") reading 0o644 (reply.Refused EMFILE) crowded nothing
 one_file_too_many = (refl, refl, refl)
+
+-- where times are kept: `mkdir /a/b` at one of them, and `rename /a/b /c` at another
+
+abbrev dawn : Time
+dawn = record { seconds = pos 21600; nanoseconds = 999999999 }
+
+abbrev noon : Time
+noon = record { seconds = pos 43200; nanoseconds = 0 }
+
+abbrev at_times : ℕ → Time → Time → Attributes
+at_times mode modified changed = record (new_attributes mode) { modified = modified; changed = changed }
+
+abbrev at_a : Path
+at_a = codes "a" ∷ []
+
+abbrev at_b : Path
+at_b = codes "a" ∷ codes "b" ∷ []
+
+abbrev at_c : Path
+at_c = codes "c" ∷ []
+
+abbrev with_a : Tree
+with_a = with_directory at_a 4 0o755 fresh
+
+with_a_is : Told with_a (at_a ∷ [] ∷ []) [] (4 ∷ 3 ∷ [])
+with_a_is = told_directory (told_root 0o755) at_a 4 0o755
+
+abbrev made_at_dawn : Tree
+made_at_dawn = entered (Some dawn) Data 5 at_a with_a (with_directory at_b 5 0o700 with_a)
+
+makes_b_at_dawn : makes_directory timed_limits (Some dawn) with_a (codes "/a/b") 0o700 reply.Done made_at_dawn (logs adds_name)
+makes_b_at_dawn = ([], listing_told with_a_is at_a [] refl, (Some 5, fresh_told with_a_is timed_limits 1 (lit≤ tt) refl refl, (refl, refl, refl)))
+
+-- the new directory and its parent have the time, and the root hasn't
+times_of_making : (made_at_dawn.attributes 5 ≡ Some (at_times 0o700 dawn dawn)) × (made_at_dawn.attributes 4 ≡ Some (at_times 0o755 dawn dawn)) × (made_at_dawn.attributes 3 ≡ Some (new_attributes 0o755))
+times_of_making = (refl, refl, refl)
+
+made_is : Told made_at_dawn (at_b ∷ at_a ∷ [] ∷ []) [] (5 ∷ 4 ∷ 3 ∷ [])
+made_is = told_touched (told_touched (told_directory with_a_is at_b 5 0o700) dawn Data 5) dawn Data 4
+
+abbrev moved_at_noon : Tree
+moved_at_noon = marked (Some noon) (touches_move (Some 5) None (Some 4) (Some 3)) (moved at_b at_c made_at_dawn)
+
+moved_is : Told moved_at_noon (moved_paths at_b at_c (at_b ∷ at_a ∷ [] ∷ [])) [] (5 ∷ 4 ∷ 3 ∷ [])
+moved_is = told_touched (told_touched (told_touched (told_moved made_is at_b at_c) noon Status 5) noon Data 4) noon Data 3
+
+moves_b_at_noon : renames timed_limits (Some noon) made_at_dawn false (codes "/a/b") (codes "/c") reply.Done moved_at_noon (logs adds_name)
+moves_b_at_noon = (codes "a" ∷ [], listing_told made_is [] (codes "a" ∷ []) refl, (refl, used_alone moved_is refl, refl))
+
+-- what moved keeps the time of its data, and both directories have the new one
+times_of_moving : (moved_at_noon.attributes 5 ≡ Some (at_times 0o700 dawn noon)) × (moved_at_noon.attributes 4 ≡ Some (at_times 0o755 noon noon)) × (moved_at_noon.attributes 3 ≡ Some (at_times 0o755 noon noon))
+times_of_moving = (refl, refl, refl)
+
+-- a size that a file has already changes its times
+truncated_to_same : truncates_open timed_limits (Some noon) (file_of (97 ∷ []) 0) 0 (pos 1) reply.Done (marked (Some noon) (touches_object Data 4) (with_bytes 4 (97 ∷ []) (file_of (97 ∷ []) 0))) (logs (changes_size 1 1))
+truncated_to_same = (refl, refl, refl)

@@ -20,37 +20,40 @@ use Rattle.model.specs.Paths.{Name, Tests, first_refusal}
 use Rattle.model.specs.Trees.{Tree, IsTree, root_alone}
 use Rattle.model.specs.Room.{Room, Need}
 use Rattle.model.specs.Outcomes.{Outcome}
-use Rattle.model.specs.States.{State, going, failed, IsState, IsFrozen, IsShortName, with_tree, with_snapshots, as_failed, ForgetsOpenFiles}
+use Rattle.model.specs.declared.time.Time.{Time}
+use Rattle.model.specs.Attributes.{KeepsTime}
+use Rattle.model.specs.States.{State, now_of, going, failed, IsState, IsFrozen, IsShortName, with_tree, with_snapshots, as_failed, ForgetsOpenFiles}
 use Rattle.model.specs.Steps.{Step, says, passing, on_tree, calls, is_reading_call, frozen, is_name_byte, take_tests, takes, deletes, has_open_below, restores, views, WouldStep}
 use Rattle.model.specs.Circumstances.{Circumstances, IsDone, IsSure, IsExcused, CoversWhereOk, IsAnswered, Allowed}
 use Rattle.model.specs.Laws.{IsCommand, IsPathCall, CommandsLeaveStates, AllowedAreStates, MountsFindStates}
 use Rattle.model.proofs.LeadLemmas.{AllPass, all_passed}
 use Rattle.model.proofs.NewTreeLemmas.{root_is_tree, tree_is_state}
 use Rattle.model.proofs.LooseLemmas.{swept_is_tree, closed_is_loose}
-use Rattle.model.proofs.StayLemmas.{LeavesTree, stays_stat, stays_list, stays_entries, stays_store, stays_readlink, stays_get, stays_truncate, stays_chmod, stays_set, stays_close, stays_read, stays_pread, stays_write, stays_pwrite, stays_seek, stays_ftruncate, stays_fstat, stays_fsync, stays_extent}
+use Rattle.model.proofs.TreeMarkLemmas.{time_kept}
+use Rattle.model.proofs.StayLemmas.{LeavesTree, stays_stat, stays_list, stays_entries, stays_store, stays_readlink, stays_get, stays_truncate, stays_chmod, stays_set, stays_close, stays_read, stays_pread, stays_write, stays_pwrite, stays_seek, stays_ftruncate, stays_fchmod, stays_fstat, stays_fsync, stays_extent}
 use Rattle.model.proofs.CallLemmas.{stays_mkdir, stays_symlink, stays_link, stays_rmdir, stays_unlink, stays_open}
 use Rattle.model.proofs.ReplaceLemmas.{stays_rename}
 use Rattle.model.proofs.OptionLaws.{none_some, some_same}
 
 -- the calls by path
-stays_path : (limits : Limits) (t : Tree) → IsTree limits t → (c : PathCall) → IsPathCall c → LeavesTree limits (calls limits t c)
-stays_path limits t tree (call.List path) bound = stays_list limits t tree path
-stays_path limits t tree (call.Entries path after count) bound = stays_entries limits t tree path after count
-stays_path limits t tree (call.Stat path) bound = stays_stat limits t tree true path
-stays_path limits t tree (call.Lstat path) bound = stays_stat limits t tree false path
-stays_path limits t tree (call.Readlink path) bound = stays_readlink limits t tree path
-stays_path limits t tree (call.Get path offset count) bound = stays_get limits t tree path offset count
-stays_path limits t tree (call.Mkdir path mode) bound = stays_mkdir limits t tree path mode bound
-stays_path limits t tree (call.Rmdir path) bound = stays_rmdir limits t tree path
-stays_path limits t tree (call.Unlink path) bound = stays_unlink limits t tree path
-stays_path limits t tree (call.Link old path) bound = stays_link limits t tree old path
-stays_path limits t tree (call.Symlink text path) bound = stays_symlink limits t tree text path
-stays_path limits t tree (call.Rename old path) bound = stays_rename limits t tree false old path
-stays_path limits t tree (call.RenameNew old path) bound = stays_rename limits t tree true old path
-stays_path limits t tree (call.Chmod path mode) bound = stays_chmod limits t tree path mode bound
-stays_path limits t tree (call.Truncate path size) bound = stays_truncate limits t tree path size
-stays_path limits t tree (call.Store path offset given) bound = stays_store limits t tree path offset given
-stays_path limits t tree (call.Set path settings) bound = stays_set limits t tree path settings bound
+stays_path : (limits : Limits) (t : Tree) → IsTree limits t → (now : Option Time) → KeepsTime limits.has_attributes now → (c : PathCall) → IsPathCall c → LeavesTree limits (calls limits now t c)
+stays_path limits t tree now timed (call.List path) bound = stays_list limits t tree path
+stays_path limits t tree now timed (call.Entries path after count) bound = stays_entries limits t tree path after count
+stays_path limits t tree now timed (call.Stat path) bound = stays_stat limits t tree true path
+stays_path limits t tree now timed (call.Lstat path) bound = stays_stat limits t tree false path
+stays_path limits t tree now timed (call.Readlink path) bound = stays_readlink limits t tree path
+stays_path limits t tree now timed (call.Get path offset count) bound = stays_get limits t tree path offset count
+stays_path limits t tree now timed (call.Mkdir path mode) bound = stays_mkdir limits t tree now timed path mode bound
+stays_path limits t tree now timed (call.Rmdir path) bound = stays_rmdir limits t tree now timed path
+stays_path limits t tree now timed (call.Unlink path) bound = stays_unlink limits t tree now timed path
+stays_path limits t tree now timed (call.Link old path) bound = stays_link limits t tree now timed old path
+stays_path limits t tree now timed (call.Symlink text path) bound = stays_symlink limits t tree now timed text path
+stays_path limits t tree now timed (call.Rename old path) bound = stays_rename limits t tree now timed false old path
+stays_path limits t tree now timed (call.RenameNew old path) bound = stays_rename limits t tree now timed true old path
+stays_path limits t tree now timed (call.Chmod path mode) bound = stays_chmod limits t tree now timed path mode bound
+stays_path limits t tree now timed (call.Truncate path size) bound = stays_truncate limits t tree now timed path size
+stays_path limits t tree now timed (call.Store path offset given) bound = stays_store limits t tree now timed path offset given
+stays_path limits t tree now timed (call.Set path settings) bound = stays_set limits t tree now timed path settings bound
 
 -- a snapshot is a tree without descriptors
 forgotten_is_frozen : (limits : Limits) (old new : Tree) → IsTree limits old → ForgetsOpenFiles old new → IsFrozen limits new
@@ -155,23 +158,24 @@ module _ (s : State) (state : IsState s) where
   leaves_view name c =
       elim (frozen s name) as (λ o. LeavesState (elim o as (λ _. Step) [
         | None ↦ says s (reply.Refused NOSNAP)
-        | Some pair ↦ passing s ((not (is_reading_call c), EROFS) ∷ []) (λ answer new need. calls s.limits pair.1 c answer pair.1 need × (new ≡ s))
+        | Some pair ↦ passing s ((not (is_reading_call c), EROFS) ∷ []) (λ answer new need. calls s.limits (now_of s) pair.1 c answer pair.1 need × (new ≡ s))
       ])) [
         | None ↦ leaves_same (reply.Refused NOSNAP)
         | Some pair ↦ leaves_passing ((not (is_reading_call c), EROFS) ∷ []) _ (λ pass answer new need done. subst IsState (sym done.1) state)
       ]
 
   leaves_step : (room : Room) (c : Command) → IsCommand c → LeavesState (WouldStep room s c)
-  leaves_step room (command.Path c) bound = leaves_on_tree _ (stays_path s.limits s.tree state.tree c bound)
-  leaves_step room (command.Open path flags mode below) bound = leaves_on_tree _ (stays_open s.limits s.tree state.tree false below path flags mode bound)
-  leaves_step room (command.OpenStat path flags mode below) bound = leaves_on_tree _ (stays_open s.limits s.tree state.tree true below path flags mode bound)
+  leaves_step room (command.Path c) bound = leaves_on_tree _ (stays_path s.limits s.tree state.tree (now_of s) (time_kept s.limits) c bound)
+  leaves_step room (command.Open path flags mode below) bound = leaves_on_tree _ (stays_open s.limits s.tree state.tree (now_of s) (time_kept s.limits) false below path flags mode bound)
+  leaves_step room (command.OpenStat path flags mode below) bound = leaves_on_tree _ (stays_open s.limits s.tree state.tree (now_of s) (time_kept s.limits) true below path flags mode bound)
   leaves_step room (command.Close fd) bound = leaves_on_tree _ (stays_close s.limits s.tree state.tree fd)
   leaves_step room (command.Read fd count) bound = leaves_on_tree _ (stays_read s.limits s.tree state.tree fd count)
-  leaves_step room (command.Write fd given) bound = leaves_on_tree _ (stays_write s.limits s.tree state.tree fd given)
+  leaves_step room (command.Write fd given) bound = leaves_on_tree _ (stays_write s.limits s.tree state.tree (now_of s) (time_kept s.limits) fd given)
   leaves_step room (command.Pread fd offset count) bound = leaves_on_tree _ (stays_pread s.limits s.tree state.tree fd offset count)
-  leaves_step room (command.Pwrite fd offset given) bound = leaves_on_tree _ (stays_pwrite s.limits s.tree state.tree fd offset given)
+  leaves_step room (command.Pwrite fd offset given) bound = leaves_on_tree _ (stays_pwrite s.limits s.tree state.tree (now_of s) (time_kept s.limits) fd offset given)
   leaves_step room (command.Lseek fd from offset) bound = leaves_on_tree _ (stays_seek s.limits s.tree state.tree fd from offset)
-  leaves_step room (command.Ftruncate fd size) bound = leaves_on_tree _ (stays_ftruncate s.limits s.tree state.tree fd size)
+  leaves_step room (command.Ftruncate fd size) bound = leaves_on_tree _ (stays_ftruncate s.limits s.tree state.tree (now_of s) (time_kept s.limits) fd size)
+  leaves_step room (command.Fchmod fd mode) bound = leaves_on_tree _ (stays_fchmod s.limits s.tree state.tree (now_of s) (time_kept s.limits) fd mode bound)
   leaves_step room (command.Fstat fd) bound = leaves_on_tree _ (stays_fstat s.limits s.tree state.tree fd)
   leaves_step room (command.Fsync fd) bound = leaves_on_tree _ (stays_fsync s.limits s.tree state.tree fd)
   leaves_step room (command.Extent path offset) bound = leaves_on_tree _ (stays_extent s.limits s.tree state.tree room.stored path offset)

@@ -13,7 +13,11 @@ use Rattle.model.specs.declared.command.Whence.{Whence}
 use Rattle.model.specs.Limits.{AreLimits}
 use Rattle.model.specs.Paths.{Name, Path, Tests, first_refusal, text_tests_then, is_empty, is_number_alone, parts_behind, start_number, starts_at_number}
 use Rattle.model.specs.Trees.{Tree, Object, directory, symlink, file, Description, HasNumber, HasPath, StandsAtPath, IsOpen, IsUsed, IsTree, number_of_object}
-use Rattle.model.specs.Edits.{contents, resized, written, read_at, with_mode, with_bytes, with_descriptor}
+use Rattle.model.specs.Touches.{Touches, touches_object}
+use Rattle.model.specs.declared.attributes.Touch.TheVariants.{Data, Status}
+use Rattle.model.specs.declared.time.Time.{Time}
+use Rattle.model.specs.Attributes.{KeepsTime}
+use Rattle.model.specs.Edits.{contents, marked, resized, written, read_at, with_mode, with_bytes, with_descriptor}
 use Rattle.model.specs.Resolution.{Resolution, named, missing, refused, resolve, resolve_within}
 use Rattle.model.specs.Room.{Need}
 use Rattle.model.specs.Outcomes.{Outcome, answers, refuses, changes, changes_swept, tested, either, leads, leads_from, leads_to, goes_along, goes_to, with_number, IsListing, with_names, with_place, IsFresh, at_number, with_fresh, HasLinks, with_links, described}
@@ -22,6 +26,7 @@ use Rattle.model.specs.Changing as changing
 use Rattle.model.specs.Descriptors as descriptors
 use Rattle.model.proofs.LeadLemmas.{AllPass, all_passed, IsReached, Misses, AnswersWell, reached_well}
 use Rattle.model.proofs.LooseLemmas.{IsLooseTree, swept_is_tree, closed_is_loose, bytes_keep, mode_keeps, held_is_tree, used_file}
+use Rattle.model.proofs.TreeMarkLemmas.{marked_is_tree, marked_objects, marked_descriptors}
 use Rattle.model.proofs.OptionLaws.{none_some, some_same}
 use Rattle.model.proofs.EditLaws.{length-resized, written_short}
 
@@ -204,14 +209,6 @@ module _ (limits : Limits) (t : Tree) (tree : IsTree limits t) where
     pub objects : u.objects ≡ t.objects
     pub descriptors : u.descriptors ≡ t.descriptors
 
-  pub truncated_is : (n size : ℕ) → StandsAtPath t file n ⊎ IsOpen t n → size ≤ limits.file_bytes → IsTruncated (changing.truncated_to n size t)
-  truncated_is n size stands few =
-      cond_both (size == length (contents t n)) t (with_bytes n (resized size (contents t n)) t) IsTruncated (λ e. record { is = tree; objects = refl; descriptors = refl }) (λ e. record {
-        is = bytes_keep limits t n (resized size (contents t n)) tree stands (subst (λ k. k ≤ limits.file_bytes) (sym (length-resized size (contents t n))) few);
-        objects = refl;
-        descriptors = refl;
-      })
-
   -- what has a number stands at a path
   pub kind_stands : (kind : ℕ → Object) (o : Object) (n : ℕ) → o ≡ kind n → HasNumber t (number_of_object o) o → StandsAtPath t kind n
   kind_stands kind o n is (p, at_p, number) = (p, at_p ∙ ap (λ r. Some r) is)
@@ -219,48 +216,9 @@ module _ (limits : Limits) (t : Tree) (tree : IsTree limits t) where
   object_stands : (o : Object) (n : ℕ) → number_of_object o ≡ n → HasNumber t (number_of_object o) o → HasPath t n
   object_stands o n is (p, at_p, number) = (p, o, at_p, is)
 
-  stays_truncated : (n size : ℕ) → StandsAtPath t file n ⊎ IsOpen t n → size ≤ limits.file_bytes → LeavesTree limits (changing.truncates_file t n size)
-  stays_truncated n size stands few = stays_changed reply.Done (changing.truncated_to n size t) (changing.need_of_truncate n size t) (truncated_is n size stands few).is
-
-  pub stays_truncate : (path : List ℕ) (size : ℤ) → LeavesTree limits (changing.truncates limits t path size)
-  stays_truncate path size =
-      stays_at (changing.size_tests limits size) true path _ (λ p o pass has. stays_by_kind o _ _ _ (λ n is. stays_refused EISDIR) (λ n text is. stays_never)
-      (λ n is. stays_truncated n (nat_abs size) (inl (kind_stands (λ k. file k) o n is has)) (ltb-false limits.file_bytes (nat_abs size) pass.1.1.1.1.1.1.1.1.0)))
-
-  pub stays_chmod : (path : List ℕ) (mode : ℕ) → mode ≤ MODE_BITS → LeavesTree limits (changing.changes_mode limits t path mode)
-  stays_chmod path mode few =
-      stays_at [] true path _ (λ p o pass has. stays_by_kind o _ _ _
-      (λ n is. stays_changed _ (with_mode n mode t) _ (mode_keeps limits t n mode tree (inl (object_stands o n (ap number_of_object is) has)) few))
-      (λ n text is. stays_never)
-      (λ n is. stays_changed _ (with_mode n mode t) _ (mode_keeps limits t n mode tree (inl (object_stands o n (ap number_of_object is) has)) few)))
-
-  stays_sets_mode : (n : ℕ) (mode : Option ℕ) → IsUsed t n → IfSome mode (λ bits. bits ≤ MODE_BITS) → LeavesTree limits (changing.sets_mode t n mode)
-  stays_sets_mode n None stands few = stays_same _
-  stays_sets_mode n (Some mode) stands few = stays_changed _ (with_mode n mode t) _ (mode_keeps limits t n mode tree stands few)
-
-  stays_sets_both : (n mode size : ℕ) → StandsAtPath t file n → mode ≤ MODE_BITS → size ≤ limits.file_bytes → LeavesTree limits (changing.sets_both t n mode size)
-  stays_sets_both n mode size stands few fits =
-      let sized : Tree = with_bytes n (resized size (contents t n)) t in
-      let is : IsTree limits sized = bytes_keep limits t n (resized size (contents t n)) tree (inl stands) (subst (λ k. k ≤ limits.file_bytes) (sym (length-resized size (contents t n))) fits) in
-      stays_either (size == length (contents t n)) _ _
-      (λ e. stays_changed _ (with_mode n mode t) _ (mode_keeps limits t n mode tree (used_file t n (inl stands)) few))
-      (λ e. stays_changed _ (with_mode n mode sized) _ (mode_keeps limits sized n mode is (used_file t n (inl stands)) few))
-
-  stays_sets_file : (n : ℕ) (mode : Option ℕ) (size : Option ℤ) → StandsAtPath t file n → IfSome mode (λ bits. bits ≤ MODE_BITS) → IfSome size (λ s. nat_abs s ≤ limits.file_bytes) → LeavesTree limits (changing.sets_file t n mode size)
-  stays_sets_file n mode None stands few fits = stays_sets_mode n mode (used_file t n (inl stands)) few
-  stays_sets_file n None (Some size) stands few fits = stays_truncated n (nat_abs size) (inl stands) fits
-  stays_sets_file n (Some mode) (Some size) stands few fits = stays_sets_both n mode (nat_abs size) stands few fits
-
   fits_given : (path : List ℕ) (size : Option ℤ) → AllPass (text_tests_then limits (changing.given_size_tests limits size) path) → IfSome size (λ s. nat_abs s ≤ limits.file_bytes)
   fits_given path None pass = tt
   fits_given path (Some size) pass = ltb-false limits.file_bytes (nat_abs size) pass.1.1.1.1.1.1.1.1.0
-
-  pub stays_set : (path : List ℕ) (settings : Settings) → IfSome settings.mode (λ bits. bits ≤ MODE_BITS) → LeavesTree limits (changing.sets limits t path settings)
-  stays_set path settings few =
-      stays_at (changing.given_size_tests limits settings.size) true path _ (λ p o pass has. stays_by_kind o _ _ _
-      (λ n is. stays_passed ((is_some settings.size, EISDIR) ∷ []) _ (λ passed. stays_sets_mode n settings.mode (inl (object_stands o n (ap number_of_object is) has)) few))
-      (λ n text is. stays_never)
-      (λ n is. stays_sets_file n settings.mode settings.size (kind_stands (λ k. file k) o n is has) few (fits_given path settings.size pass)))
 
   -- descriptors
 
@@ -288,35 +246,6 @@ module _ (limits : Limits) (t : Tree) (tree : IsTree limits t) where
   stays_pread fd offset count =
       stays_described fd _ (λ f at_fd. stays_passed ((not f.reads, EBADF) ∷ (reading.is_negative offset || reading.is_too_many count, EINVAL) ∷ []) _ (λ pass. stays_same _))
 
-  stays_puts : (n offset : ℕ) (given : List ℕ) (also : Tree → Tree) → StandsAtPath t file n ⊎ IsOpen t n → ((u : Tree) → IsTree limits u → u.descriptors ≡ t.descriptors → offset + length given ≤ limits.file_bytes → IsTree limits (also u)) → LeavesTree limits (descriptors.puts limits t n offset given also)
-  stays_puts n offset given also used keeps =
-      stays_either (is_empty given) _ _ (λ e. stays_same _) (λ e. stays_passed ((nat_lt limits.file_bytes (offset + length given), EFBIG) ∷ []) _ (λ pass.
-      let few : offset + length given ≤ limits.file_bytes = ltb-false limits.file_bytes (offset + length given) pass.0 in
-      let put : Tree = with_bytes n (written offset given (contents t n)) t in
-      stays_changed _ (also put) _ (keeps put (bytes_keep limits t n (written offset given (contents t n)) tree used (written_short offset given (contents t n) few (few_contents n))) refl few)))
-
-  pub stays_store : (path : List ℕ) (offset : ℤ) (given : List ℕ) → LeavesTree limits (descriptors.stores limits t path offset given)
-  stays_store path offset given =
-      stays_at ((reading.is_negative offset || reading.is_too_many (length given), EINVAL) ∷ []) true path _ (λ p o pass has. stays_by_kind o _ _ _
-      (λ n is. stays_refused EISDIR)
-      (λ n text is. stays_never)
-      (λ n is. stays_puts n (nat_abs offset) given (λ after. after) (inl (kind_stands (λ k. file k) o n is has)) (λ u keeps same few. keeps)))
-
-  pub stays_write : (fd : ℕ) (given : List ℕ) → LeavesTree limits (descriptors.writes limits t fd given)
-  stays_write fd given =
-      stays_described fd _ (λ f at_fd.
-      let offset : ℕ = if f.appends then length (contents t f.number) else f.offset in
-      stays_passed ((not f.writes, EBADF) ∷ (reading.is_too_many (length given), EINVAL) ∷ []) (descriptors.puts limits t f.number offset given (descriptors.with_offset fd f (offset + length given))) (λ pass.
-      stays_puts f.number offset given (descriptors.with_offset fd f (offset + length given)) (inr (fd, f, at_fd, refl)) (λ u is same few.
-      let open_now : u.descriptors fd ≡ Some f = ap (λ table. table fd) same ∙ at_fd in
-      held_is_tree limits u is fd (record f { offset = offset + length given }) (below_table fd f at_fd) (inr (fd, f, open_now, refl)) (omega (arith, few)) (λ g at_g. ap (λ (h : Description). h.number) (some_same (sym at_g ∙ open_now))))))
-
-  pub stays_pwrite : (fd : ℕ) (offset : ℤ) (given : List ℕ) → LeavesTree limits (descriptors.writes_to limits t fd offset given)
-  stays_pwrite fd offset given =
-      stays_described fd _ (λ f at_fd.
-      stays_passed ((not f.writes, EBADF) ∷ (reading.is_negative offset || reading.is_too_many (length given), EINVAL) ∷ []) (descriptors.puts limits t f.number (nat_abs offset) given (λ after. after)) (λ pass.
-      stays_puts f.number (nat_abs offset) given (λ after. after) (inr (fd, f, at_fd, refl)) (λ u is same few. is)))
-
   pub stays_seek : (fd : ℕ) (from : Whence) (offset : ℤ) → LeavesTree limits (descriptors.seeks t fd from offset)
   stays_seek fd from offset =
       stays_described fd _ (λ f at_fd.
@@ -324,13 +253,106 @@ module _ (limits : Limits) (t : Tree) (tree : IsTree limits t) where
       stays_passed ((reading.is_negative place, EINVAL) ∷ (nat_lt GREATEST_OFFSET (nat_abs place), EOVERFLOW) ∷ []) _ (λ pass.
       stays_changed _ (descriptors.with_offset fd f (nat_abs place) t) _ (offset_moves fd f (nat_abs place) at_fd (ltb-false GREATEST_OFFSET (nat_abs place) pass.1.0))))
 
-  pub stays_ftruncate : (fd : ℕ) (size : ℤ) → LeavesTree limits (descriptors.truncates_open limits t fd size)
-  stays_ftruncate fd size =
-      stays_described fd _ (λ f at_fd. stays_passed ((not f.writes, EINVAL) ∷ changing.size_tests limits size) _ (λ pass.
-      stays_truncated f.number (nat_abs size) (inr (fd, f, at_fd, refl)) (ltb-false limits.file_bytes (nat_abs size) pass.1.1.0)))
-
   pub stays_fstat : (fd : ℕ) → LeavesTree limits (descriptors.stats_open t fd)
   stays_fstat fd = stays_described fd _ (λ f at_fd. stays_tells (file f.number))
 
   pub stays_fsync : (fd : ℕ) → LeavesTree limits (descriptors.syncs_open t fd)
   stays_fsync fd = stays_described fd _ (λ f at_fd. stays_same _)
+
+  -- the calls that change bytes and modes, at a time that the file system may keep
+  module _ (now : Option Time) (timed : KeepsTime limits.has_attributes now) where
+    -- a tree in which a change touches objects
+    touched_is_tree : (touches : Touches) (u : Tree) → IsTree limits u → IsTree limits (marked now touches u)
+    touched_is_tree touches u is = marked_is_tree limits now timed touches u is
+
+    mode_is : (n mode : ℕ) (u : Tree) → IsTree limits u → IsUsed u n → mode ≤ MODE_BITS → IsTree limits (changing.with_changed_mode now n mode u)
+    mode_is n mode u is used few = touched_is_tree (touches_object Status n) (with_mode n mode u) (mode_keeps limits u n mode is used few)
+
+    sized_is : (n size : ℕ) → StandsAtPath t file n ⊎ IsOpen t n → size ≤ limits.file_bytes → IsTree limits (with_bytes n (resized size (contents t n)) t)
+    sized_is n size stands few = bytes_keep limits t n (resized size (contents t n)) tree stands (subst (λ k. k ≤ limits.file_bytes) (sym (length-resized size (contents t n))) few)
+
+    pub truncated_is : (n size : ℕ) → StandsAtPath t file n ⊎ IsOpen t n → size ≤ limits.file_bytes → IsTruncated (changing.truncated_to now n size t)
+    truncated_is n size stands few =
+        let sized : Tree = with_bytes n (resized size (contents t n)) t in
+        cond_both (changing.is_idle_size now n size t) t (marked now (touches_object Data n) sized) IsTruncated (λ e. record { is = tree; objects = refl; descriptors = refl }) (λ e. record {
+          is = touched_is_tree (touches_object Data n) sized (sized_is n size stands few);
+          objects = marked_objects now (touches_object Data n) sized;
+          descriptors = marked_descriptors now (touches_object Data n) sized;
+        })
+
+    stays_truncated : (n size : ℕ) → StandsAtPath t file n ⊎ IsOpen t n → size ≤ limits.file_bytes → LeavesTree limits (changing.truncates_file now t n size)
+    stays_truncated n size stands few = stays_changed reply.Done (changing.truncated_to now n size t) (changing.need_of_truncate now n size t) (truncated_is n size stands few).is
+
+    pub stays_truncate : (path : List ℕ) (size : ℤ) → LeavesTree limits (changing.truncates limits now t path size)
+    stays_truncate path size =
+        stays_at (changing.size_tests limits size) true path _ (λ p o pass has. stays_by_kind o _ _ _ (λ n is. stays_refused EISDIR) (λ n text is. stays_never)
+        (λ n is. stays_truncated n (nat_abs size) (inl (kind_stands (λ k. file k) o n is has)) (ltb-false limits.file_bytes (nat_abs size) pass.1.1.1.1.1.1.1.1.0)))
+
+    pub stays_chmod : (path : List ℕ) (mode : ℕ) → mode ≤ MODE_BITS → LeavesTree limits (changing.changes_mode limits now t path mode)
+    stays_chmod path mode few =
+        stays_at [] true path _ (λ p o pass has. stays_by_kind o _ _ _
+        (λ n is. stays_changed _ _ _ (mode_is n mode t tree (inl (object_stands o n (ap number_of_object is) has)) few))
+        (λ n text is. stays_never)
+        (λ n is. stays_changed _ _ _ (mode_is n mode t tree (inl (object_stands o n (ap number_of_object is) has)) few)))
+
+    stays_sets_mode : (n : ℕ) (mode : Option ℕ) → IsUsed t n → IfSome mode (λ bits. bits ≤ MODE_BITS) → LeavesTree limits (changing.sets_mode now t n mode)
+    stays_sets_mode n None stands few = stays_same _
+    stays_sets_mode n (Some mode) stands few = stays_changed _ _ _ (mode_is n mode t tree stands few)
+
+    stays_sets_both : (n mode size : ℕ) → StandsAtPath t file n → mode ≤ MODE_BITS → size ≤ limits.file_bytes → LeavesTree limits (changing.sets_both now t n mode size)
+    stays_sets_both n mode size stands few fits =
+        let sized : Tree = with_bytes n (resized size (contents t n)) t in
+        stays_either (changing.is_idle_size now n size t) _ _
+        (λ e. stays_changed _ _ _ (mode_is n mode t tree (used_file t n (inl stands)) few))
+        (λ e. stays_changed _ _ _ (touched_is_tree (touches_object Data n) (with_mode n mode sized) (mode_keeps limits sized n mode (sized_is n size (inl stands) fits) (used_file t n (inl stands)) few)))
+
+    stays_sets_file : (n : ℕ) (mode : Option ℕ) (size : Option ℤ) → StandsAtPath t file n → IfSome mode (λ bits. bits ≤ MODE_BITS) → IfSome size (λ s. nat_abs s ≤ limits.file_bytes) → LeavesTree limits (changing.sets_file now t n mode size)
+    stays_sets_file n mode None stands few fits = stays_sets_mode n mode (used_file t n (inl stands)) few
+    stays_sets_file n None (Some size) stands few fits = stays_truncated n (nat_abs size) (inl stands) fits
+    stays_sets_file n (Some mode) (Some size) stands few fits = stays_sets_both n mode (nat_abs size) stands few fits
+
+    pub stays_set : (path : List ℕ) (settings : Settings) → IfSome settings.mode (λ bits. bits ≤ MODE_BITS) → LeavesTree limits (changing.sets limits now t path settings)
+    stays_set path settings few =
+        stays_at (changing.given_size_tests limits settings.size) true path _ (λ p o pass has. stays_by_kind o _ _ _
+        (λ n is. stays_passed ((is_some settings.size, EISDIR) ∷ []) _ (λ passed. stays_sets_mode n settings.mode (inl (object_stands o n (ap number_of_object is) has)) few))
+        (λ n text is. stays_never)
+        (λ n is. stays_sets_file n settings.mode settings.size (kind_stands (λ k. file k) o n is has) few (fits_given path settings.size pass)))
+
+    stays_puts : (n offset : ℕ) (given : List ℕ) (also : Tree → Tree) → StandsAtPath t file n ⊎ IsOpen t n → ((u : Tree) → IsTree limits u → u.descriptors ≡ t.descriptors → offset + length given ≤ limits.file_bytes → IsTree limits (also u)) → LeavesTree limits (descriptors.puts limits now t n offset given also)
+    stays_puts n offset given also used keeps =
+        stays_either (is_empty given) _ _ (λ e. stays_same _) (λ e. stays_passed ((nat_lt limits.file_bytes (offset + length given), EFBIG) ∷ []) _ (λ pass.
+        let few : offset + length given ≤ limits.file_bytes = ltb-false limits.file_bytes (offset + length given) pass.0 in
+        let put : Tree = with_bytes n (written offset given (contents t n)) t in
+        stays_changed _ (also (marked now (touches_object Data n) put)) _ (keeps (marked now (touches_object Data n) put)
+        (touched_is_tree (touches_object Data n) put (bytes_keep limits t n (written offset given (contents t n)) tree used (written_short offset given (contents t n) few (few_contents n))))
+        (marked_descriptors now (touches_object Data n) put) few)))
+
+    pub stays_store : (path : List ℕ) (offset : ℤ) (given : List ℕ) → LeavesTree limits (descriptors.stores limits now t path offset given)
+    stays_store path offset given =
+        stays_at ((reading.is_negative offset || reading.is_too_many (length given), EINVAL) ∷ []) true path _ (λ p o pass has. stays_by_kind o _ _ _
+        (λ n is. stays_refused EISDIR)
+        (λ n text is. stays_never)
+        (λ n is. stays_puts n (nat_abs offset) given (λ after. after) (inl (kind_stands (λ k. file k) o n is has)) (λ u keeps same few. keeps)))
+
+    pub stays_write : (fd : ℕ) (given : List ℕ) → LeavesTree limits (descriptors.writes limits now t fd given)
+    stays_write fd given =
+        stays_described fd _ (λ f at_fd.
+        let offset : ℕ = if f.appends then length (contents t f.number) else f.offset in
+        stays_passed ((not f.writes, EBADF) ∷ (reading.is_too_many (length given), EINVAL) ∷ []) (descriptors.puts limits now t f.number offset given (descriptors.with_offset fd f (offset + length given))) (λ pass.
+        stays_puts f.number offset given (descriptors.with_offset fd f (offset + length given)) (inr (fd, f, at_fd, refl)) (λ u is same few.
+        let open_now : u.descriptors fd ≡ Some f = ap (λ table. table fd) same ∙ at_fd in
+        held_is_tree limits u is fd (record f { offset = offset + length given }) (below_table fd f at_fd) (inr (fd, f, open_now, refl)) (omega (arith, few)) (λ g at_g. ap (λ (h : Description). h.number) (some_same (sym at_g ∙ open_now))))))
+
+    pub stays_pwrite : (fd : ℕ) (offset : ℤ) (given : List ℕ) → LeavesTree limits (descriptors.writes_to limits now t fd offset given)
+    stays_pwrite fd offset given =
+        stays_described fd _ (λ f at_fd.
+        stays_passed ((not f.writes, EBADF) ∷ (reading.is_negative offset || reading.is_too_many (length given), EINVAL) ∷ []) (descriptors.puts limits now t f.number (nat_abs offset) given (λ after. after)) (λ pass.
+        stays_puts f.number (nat_abs offset) given (λ after. after) (inr (fd, f, at_fd, refl)) (λ u is same few. is)))
+
+    pub stays_ftruncate : (fd : ℕ) (size : ℤ) → LeavesTree limits (descriptors.truncates_open limits now t fd size)
+    stays_ftruncate fd size =
+        stays_described fd _ (λ f at_fd. stays_passed ((not f.writes, EINVAL) ∷ changing.size_tests limits size) _ (λ pass.
+        stays_truncated f.number (nat_abs size) (inr (fd, f, at_fd, refl)) (ltb-false limits.file_bytes (nat_abs size) pass.1.1.0)))
+
+    pub stays_fchmod : (fd mode : ℕ) → mode ≤ MODE_BITS → LeavesTree limits (descriptors.changes_open_mode now t fd mode)
+    stays_fchmod fd mode few = stays_described fd _ (λ f at_fd. stays_changed _ _ _ (mode_is f.number mode t tree (inr (fd, f, at_fd, refl)) few))

@@ -15,10 +15,14 @@ use Rattle.std.proofs.lemmas.Map.Views.{list_any-from_Contains, Contains-from_an
 use Rattle.model.specs.declared.limits.Limits.{Limits}
 use Rattle.model.specs.declared.attributes.Attributes.{Attributes}
 use Rattle.model.specs.declared.limits.TheConstants.{LINK_MODE}
+use Rattle.std.specs.Option.{option_map}
+use Rattle.model.specs.declared.attributes.Touch.{Touch}
+use Rattle.model.specs.declared.time.Time.{Time}
 use Rattle.model.specs.Attributes.{new_attributes}
+use Rattle.model.specs.Touches.{touched_at}
 use Rattle.model.specs.Paths.{Name, Path, path_eq, behind}
 use Rattle.model.specs.Trees.{Tree, Object, directory, symlink, file, number_of_object, Description, HasPath, IsUsed, root_alone}
-use Rattle.model.specs.Edits.{with_attributes, with_directory, with_file, with_symlink, put_at, relocate, moved, IsSwept}
+use Rattle.model.specs.Edits.{with_attributes, with_directory, with_file, with_symlink, put_at, relocate, moved, touching, IsSwept}
 use Rattle.model.specs.Counting.{Counts}
 use Rattle.model.specs.Outcomes.{IsListing, IsFresh}
 use Rattle.model.specs.States.{ForgetsOpenFiles}
@@ -83,6 +87,16 @@ module _ {t : Tree} {paths : List Path} {open_ones numbers : List ℕ} (told : T
         let none = told.maps k (or_parts (k == n) (within k numbers) out).1 in
         (other_number n k (Some bytes) (t.bytes k) out none.0, none.1);
   }
+
+-- an object is touched
+pub told_touched : {t : Tree} {paths : List Path} {open_ones numbers : List ℕ} → Told t paths open_ones numbers → (time : Time) (touch : Touch) (n : ℕ) → Told (touching time touch (Some n) t) paths open_ones numbers
+told_touched {t} told time touch n = record {
+  objects = told.objects;
+  descriptors = told.descriptors;
+  maps = λ k out.
+      let none = told.maps k out in
+      (none.0, cond_both (k == n) (option_map (touched_at time touch) (t.attributes k)) (t.attributes k) (λ (r : Option Attributes). r ≡ None) (λ e. ap (option_map (touched_at time touch)) none.1) (λ e. none.1));
+}
 
 -- a new directory, and a new file of no bytes
 module _ {t : Tree} {paths : List Path} {open_ones numbers : List ℕ} (told : Told t paths open_ones numbers) where
@@ -316,6 +330,18 @@ module _ {t : Tree} {paths : List Path} {open_ones numbers : List ℕ} (told : T
         | inr out ↦ told.maps k out
         | inl there ↦ absurd (unused (used_from t paths open_ones k (elim (or_cases (k == n) (is_used t paths open_ones k) (passed_within (λ j. j == n || is_used t paths open_ones j) k numbers there all)) [ inl e ↦ absurd (false≢true (sym other ∙ e)) | inr is ↦ is ])))
       ]
+
+  -- where all numbers are used, nothing is swept
+  pub used_alone : list_all (is_used t paths open_ones) numbers ≡ true → IsSwept t t
+  used_alone all = record {
+    objects = refl;
+    descriptors = refl;
+    kept = λ k used. (refl, refl);
+    gone = λ k unused. elim (cases_Bool (within k numbers)) [
+      | inr out ↦ told.maps k out
+      | inl there ↦ absurd (unused (used_from t paths open_ones k (passed_within (is_used t paths open_ones) k numbers there all)))
+    ];
+  }
 
   pub told_dropped : (n : ℕ) → Told (dropped n t) paths open_ones numbers
   told_dropped n = record {

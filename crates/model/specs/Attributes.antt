@@ -1,7 +1,7 @@
 -- What an object has beside its kind, its count of names and its bytes: its mode, its owner and group, its
 -- times and its generation. Each later field of an object is a field here, of `new_attributes` and
 -- `AreAttributes`, and gets a lens beside `set_mode`.
-use Rattle.std.specs.Prelude.{ℕ, ◌≡◌, ◌≤◌, Bool, IsFalse, pos, FitsSigned}
+use Rattle.std.specs.Prelude.{ℕ, ◌≡◌, ◌≤◌, Bool, IsFalse, IsTrue, Option, Some, None, pos, FitsSigned}
 use Rattle.std.specs.Int.{w64}
 use Rattle.model.specs.declared.limits.TheConstants.{GREATEST_OWNER, MODE_BITS, MOST_CREATIONS, MOST_NANOSECONDS}
 use Rattle.model.specs.declared.attributes.Attributes.{Attributes}
@@ -40,6 +40,11 @@ pub record AreAttributes (a : Attributes) : Type 0 where
 -- all but the mode are zeros
 abbrev pub HaveOnlyMode : Attributes → Type 0
 HaveOnlyMode a = a ≡ new_attributes a.mode
+
+-- a time that a change may have: any, where a file system keeps times, and else none
+abbrev pub KeepsTime : Bool → Option Time → Type 0
+KeepsTime has_attributes None = Unit {0}
+KeepsTime has_attributes (Some time) = IsTrue has_attributes × IsTime time
 
 -- the attributes that an object may have on a file system that keeps all of them, or the mode alone
 pub record FitAttributes (has_attributes : Bool) (a : Attributes) : Type 0 where

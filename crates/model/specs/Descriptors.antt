@@ -1,6 +1,7 @@
 -- The calls on descriptors (POSIX.1-2017, open(), close(), read(), write(), lseek(), ftruncate(),
--- fstat(), fsync()), and what a write does to a file.
-use Rattle.std.specs.Prelude.{ℕ, ℤ, pos, nat_abs, ◌+ℤ◌, ◌+◌, min, nat_lt, not, ◌&&◌, ◌||◌, if◌then◌else◌, Bool, true, false, List, [], ◌∷◌, ◌++◌, length, Some, None}
+-- fchmod(), fstat(), fsync()), and what a write does to a file. `now` is the time of the call, where
+-- the file system keeps times.
+use Rattle.std.specs.Prelude.{ℕ, ℤ, pos, nat_abs, ◌+ℤ◌, ◌+◌, min, nat_lt, not, ◌&&◌, ◌||◌, if◌then◌else◌, Bool, true, false, Option, List, [], ◌∷◌, ◌++◌, length, Some, None}
 use Rattle.model.specs.declared.limits.TheConstants.{OPEN_FILES, GREATEST_OFFSET}
 use Rattle.model.specs.declared.errno.Errno.TheVariants.{ENOENT, EISDIR, EEXIST, EINVAL, EBADF, EMFILE, EFBIG, EOVERFLOW}
 use Rattle.model.specs.declared.reply.Reply.TheVariants as reply
@@ -12,12 +13,15 @@ use Rattle.model.specs.declared.command.Whence.TheVariants as whence
 use Rattle.model.specs.declared.limits.Limits.{Limits}
 use Rattle.model.specs.Paths.{Name, Path, Tests, text_tests_then, is_empty}
 use Rattle.model.specs.Trees.{Tree, Object, directory, symlink, file, Description}
-use Rattle.model.specs.Edits.{contents, read_at, written, with_bytes, with_file, with_descriptor}
-use Rattle.model.specs.Room.{Need, nothing, logs, adds_name, puts_bytes}
+use Rattle.model.specs.Edits.{contents, marked, read_at, written, with_bytes, with_file, with_descriptor}
+use Rattle.model.specs.Touches.{touches_object}
+use Rattle.model.specs.declared.attributes.Touch.TheVariants.{Data}
+use Rattle.model.specs.declared.time.Time.{Time}
+use Rattle.model.specs.Room.{Need, nothing, logs, adds_name, puts_bytes, changes_bits}
 use Rattle.model.specs.Outcomes.{Outcome, answers, refuses, changes, changes_swept, tested, either, goes_along, goes_to, with_place, with_fresh, with_links, lowest_free, described}
 use Rattle.model.specs.Stats.{stat_of}
 use Rattle.model.specs.Reading.{is_negative, is_too_many, tells_stat}
-use Rattle.model.specs.Changing.{truncated_to, need_of_truncate, truncates_file, size_tests}
+use Rattle.model.specs.Changing.{entered, with_changed_mode, truncated_to, need_of_truncate, truncates_file, size_tests}
 
 -- a file opened so may be read
 abbrev pub is_reading : Access → Bool
@@ -47,21 +51,22 @@ opens_file tells n flags fd t need =
 
 -- `open` where an object stands: a file is opened, and truncated to no bytes where the flags say
 -- so; a directory is refused, and so is anything where the flags want a new file
-abbrev pub opens_object : Bool → Tree → Object → Flags → ℕ → Outcome
-opens_object tells t o flags fd =
+abbrev pub opens_object : Bool → Option Time → Tree → Object → Flags → ℕ → Outcome
+opens_object tells now t o flags fd =
     tested t ((flags.creates && flags.exclusive, EEXIST) ∷ []) (elim o [
       | directory n ↦ refuses t EISDIR
       | symlink n text ↦ λ _ _ _. ⊥  -- a final link is followed
       | file n ↦ either flags.truncates
-          (opens_file tells n flags fd (truncated_to n 0 t) (need_of_truncate n 0 t))
+          (opens_file tells n flags fd (truncated_to now n 0 t) (need_of_truncate now n 0 t))
           (opens_file tells n flags fd t nothing)
     ])
 
 -- `open` where nothing stands: a file is made and opened where the flags say so
-abbrev pub opens_new : Bool → Limits → Tree → Path → Name → Flags → ℕ → ℕ → Outcome
-opens_new tells limits t p name flags mode fd =
+abbrev pub opens_new : Bool → Limits → Option Time → Tree → Path → Name → Flags → ℕ → ℕ → Outcome
+opens_new tells limits now t p name flags mode fd =
     tested t ((not flags.creates, ENOENT) ∷ [])
-    (with_place limits t p (with_fresh limits t (λ n. opens_file tells n flags fd (with_file (p ++ name ∷ []) n mode t) (logs adds_name))))
+    (with_place limits t p (with_fresh limits t (λ n.
+    opens_file tells n flags fd (entered now Data n p t (with_file (p ++ name ∷ []) n mode t)) (logs adds_name))))
 
 -- the tests of the flags: no exclusive without create, and no truncating without writing
 abbrev pub open_tests : Flags → Tests
@@ -69,13 +74,13 @@ open_tests flags = (flags.exclusive && not flags.creates, EINVAL) ∷ (flags.tru
 
 -- `open` and `openstat`: a file that is there, or a new one, gets the lowest free descriptor, which
 -- is below a number
-abbrev pub opens : Bool → ℕ → Limits → Tree → List ℕ → Flags → ℕ → Outcome
-opens tells below limits t path flags mode =
+abbrev pub opens : Bool → ℕ → Limits → Option Time → Tree → List ℕ → Flags → ℕ → Outcome
+opens tells below limits now t path flags mode =
     tested t (text_tests_then limits (open_tests flags) path) (elim (lowest_free t.descriptors (min below OPEN_FILES)) [
       | None ↦ refuses t EMFILE
       | Some fd ↦ goes_along t (not (flags.creates && flags.exclusive)) path
-          (λ p o. opens_object tells t o flags fd)
-          (λ p name. opens_new tells limits t p name flags mode fd)
+          (λ p o. opens_object tells now t o flags fd)
+          (λ p name. opens_new tells limits now t p name flags mode fd)
     ])
 
 -- `close`: the descriptor is free, and a file with no name and no other descriptor is gone
@@ -97,34 +102,35 @@ reads_from t fd offset count =
 
 -- data goes to a file at an offset: where there is any and the limit holds it, it is written, and
 -- what else changes is `also`
-abbrev pub puts : Limits → Tree → ℕ → ℕ → List ℕ → (Tree → Tree) → Outcome
-puts limits t n offset given also =
+abbrev pub puts : Limits → Option Time → Tree → ℕ → ℕ → List ℕ → (Tree → Tree) → Outcome
+puts limits now t n offset given also =
     either (is_empty given) (answers t (reply.Wrote 0))
     (tested t ((nat_lt limits.file_bytes (offset + length given), EFBIG) ∷ [])
-    (changes (reply.Wrote (length given)) (also (with_bytes n (written offset given (contents t n)) t)) (logs (puts_bytes (length (contents t n)) offset (length given)))))
+    (changes (reply.Wrote (length given)) (also (marked now (touches_object Data n) (with_bytes n (written offset given (contents t n)) t)))
+    (logs (puts_bytes (length (contents t n)) offset (length given)))))
 
 -- `store`: data goes to the file that a path leads to, at this offset
-abbrev pub stores : Limits → Tree → List ℕ → ℤ → List ℕ → Outcome
-stores limits t path offset given =
+abbrev pub stores : Limits → Option Time → Tree → List ℕ → ℤ → List ℕ → Outcome
+stores limits now t path offset given =
     tested t (text_tests_then limits ((is_negative offset || is_too_many (length given), EINVAL) ∷ []) path)
     (goes_to t true path (λ p o. elim o [
-      | file n ↦ puts limits t n (nat_abs offset) given (λ after. after)
+      | file n ↦ puts limits now t n (nat_abs offset) given (λ after. after)
       | directory n ↦ refuses t EISDIR
       | symlink n text ↦ λ _ _ _. ⊥  -- a final link is followed
     ]))
 
 -- `write`: data goes to the descriptor's offset, or behind the last byte under append, and the
 -- offset moves behind it
-abbrev pub writes : Limits → Tree → ℕ → List ℕ → Outcome
-writes limits t fd given =
+abbrev pub writes : Limits → Option Time → Tree → ℕ → List ℕ → Outcome
+writes limits now t fd given =
     described t fd (λ f. tested t ((not f.writes, EBADF) ∷ (is_too_many (length given), EINVAL) ∷ [])
-    (let offset = if f.appends then length (contents t f.number) else f.offset in puts limits t f.number offset given (with_offset fd f (offset + length given))))
+    (let offset = if f.appends then length (contents t f.number) else f.offset in puts limits now t f.number offset given (with_offset fd f (offset + length given))))
 
 -- `pwrite`: data goes to this offset, also under append, and the descriptor's own doesn't move
-abbrev pub writes_to : Limits → Tree → ℕ → ℤ → List ℕ → Outcome
-writes_to limits t fd offset given =
+abbrev pub writes_to : Limits → Option Time → Tree → ℕ → ℤ → List ℕ → Outcome
+writes_to limits now t fd offset given =
     described t fd (λ f. tested t ((not f.writes, EBADF) ∷ (is_negative offset || is_too_many (length given), EINVAL) ∷ [])
-    (puts limits t f.number (nat_abs offset) given (λ after. after)))
+    (puts limits now t f.number (nat_abs offset) given (λ after. after)))
 
 -- from where an offset of `lseek` counts: the start, the descriptor's offset, or the end of the
 -- file
@@ -142,8 +148,12 @@ seeks t fd from offset =
     (changes (reply.At (nat_abs place)) (with_offset fd f (nat_abs place) t) nothing))
 
 -- `ftruncate`: the file of a descriptor for writing gets this size
-abbrev pub truncates_open : Limits → Tree → ℕ → ℤ → Outcome
-truncates_open limits t fd size = described t fd (λ f. tested t ((not f.writes, EINVAL) ∷ size_tests limits size) (truncates_file t f.number (nat_abs size)))
+abbrev pub truncates_open : Limits → Option Time → Tree → ℕ → ℤ → Outcome
+truncates_open limits now t fd size = described t fd (λ f. tested t ((not f.writes, EINVAL) ∷ size_tests limits size) (truncates_file now t f.number (nat_abs size)))
+
+-- `fchmod`: the file of a descriptor gets this mode, whatever the descriptor is for
+abbrev pub changes_open_mode : Option Time → Tree → ℕ → ℕ → Outcome
+changes_open_mode now t fd mode = described t fd (λ f. changes reply.Done (with_changed_mode now f.number mode t) (logs changes_bits))
 
 -- `fstat`: what `stat` tells, of the file of a descriptor
 abbrev pub stats_open : Tree → ℕ → Outcome

@@ -1,10 +1,15 @@
 -- What the changing calls make of a tree and of a file's bytes.
 use Rattle.std.specs.Prelude.{ℕ, ◌≡◌, ◌==◌, ◌+◌, ◌-◌, if◌then◌else◌, List, [], ◌++◌, length, take, drop, replicate, Option, Some, None, unwrap_or}
+use Rattle.std.specs.Option.{option_map}
 use Rattle.model.specs.declared.attributes.Attributes.{Attributes}
 use Rattle.model.specs.declared.limits.TheConstants.{LINK_MODE}
 use Rattle.model.specs.Attributes.{new_attributes, no_attributes, set_mode}
+use Rattle.model.specs.Touches.{Touches, touched_at}
+use Rattle.model.specs.declared.attributes.Touch.{Touch}
+use Rattle.model.specs.declared.attributes.Touch.TheVariants.{Data, Status}
+use Rattle.model.specs.declared.time.Time.{Time}
 use Rattle.model.specs.Paths.{Path, path_eq, behind}
-use Rattle.model.specs.Trees.{Tree, Object, directory, file, symlink, Description, IsUsed}
+use Rattle.model.specs.Trees.{Tree, Object, number_of_object, directory, file, symlink, Description, IsUsed}
 
 -- bytes truncated, or filled with zeros, to this size
 abbrev pub resized : ℕ → List ℕ → List ℕ
@@ -49,6 +54,23 @@ changing_attributes n f t = with_attributes n (f (attributes_at t n)) t
 -- the tree with another mode at a number
 abbrev pub with_mode : ℕ → ℕ → Tree → Tree
 with_mode n mode t = changing_attributes n (set_mode mode) t
+
+-- the tree with an object touched, if a number of one is given
+abbrev pub touching : Time → Touch → Option ℕ → Tree → Tree
+touching time touch None t = t
+touching time touch (Some n) t =
+    record t { attributes = λ k. if k == n then option_map (touched_at time touch) (t.attributes k) else t.attributes k }
+
+-- the tree with all touched that a change touches, where it has a time
+abbrev pub marked : Option Time → Touches → Tree → Tree
+marked None touches t = t
+marked (Some time) touches t =
+    touching time Data touches.new_parent (touching time Data touches.parent
+    (touching time Status touches.replaced (touching time touches.touch touches.object t)))
+
+-- the number of what stands at a path
+abbrev pub number_at_path : Tree → Path → Option ℕ
+number_at_path t p = option_map number_of_object (t.objects p)
 
 -- the tree with bytes at a file's number
 abbrev pub with_bytes : ℕ → List ℕ → Tree → Tree

@@ -79,6 +79,7 @@ IsCommand (command.Path c) = IsPathCall c
 IsCommand (command.Within name c) = IsPathCall c
 IsCommand (command.Open path flags mode below) = mode ≤ MODE_BITS
 IsCommand (command.OpenStat path flags mode below) = mode ≤ MODE_BITS
+IsCommand (command.Fchmod fd mode) = mode ≤ MODE_BITS
 IsCommand c = Unit {0}
 
 -- where a directory is told in parts from the first one on, until a part tells nothing, a name that

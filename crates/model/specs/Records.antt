@@ -4,7 +4,11 @@ use Rattle.model.specs.declared.costs.Costs.{Costs}
 use Rattle.model.specs.declared.limits.TheConstants.{FIRST_NUMBER, TRANSFER_BYTES, LINK_MODE, MODE_BITS}
 use Rattle.model.specs.declared.attributes.Attributes.{Attributes}
 use Rattle.model.specs.declared.limits.Limits.{Limits}
-use Rattle.model.specs.Attributes.{new_attributes, set_mode}
+use Rattle.model.specs.Attributes.{KeepsTime, new_attributes, set_mode}
+use Rattle.model.specs.Touches.{Touches, touched_at, touches_entry, touches_move, touches_object}
+use Rattle.model.specs.declared.attributes.Touch.{Touch}
+use Rattle.model.specs.declared.attributes.Touch.TheVariants.{Data, Status}
+use Rattle.model.specs.declared.time.Time.{Time}
 use Rattle.model.specs.Counting.{Counts}
 use Rattle.model.specs.Paths.{Name, Path, IsName, IsLinkText}
 use Rattle.model.specs.Edits.{written, resized}
@@ -17,16 +21,24 @@ pub data Made : Type 0 where
   directory : (mode : ℕ) → Made
   symbolic_link : (text : List ℕ) → Made
 
--- what a record of the log says
-pub data Change : Type 0 where
-  create : (number parent : ℕ) → (made : Made) → (name : List ℕ) → Change
-  link : (number parent : ℕ) → (name : List ℕ) → Change
-  remove_name : (parent : ℕ) → (name : List ℕ) → Change
-  rename : (parent : ℕ) → (name : List ℕ) → (new_parent : ℕ) → (new_name : List ℕ) → Change
-  write : (number offset : ℕ) → (bytes : List ℕ) → Change
-  truncate : (number size : ℕ) → Change
-  change_mode : (number mode : ℕ) → Change
-  set_file : (number mode size : ℕ) → Change
+-- what a record of the log does
+pub data Edit : Type 0 where
+  create : (number parent : ℕ) → (made : Made) → (name : List ℕ) → Edit
+  link : (number parent : ℕ) → (name : List ℕ) → Edit
+  remove_name : (parent : ℕ) → (name : List ℕ) → Edit
+  rename : (parent : ℕ) → (name : List ℕ) → (new_parent : ℕ) → (new_name : List ℕ) → Edit
+  write : (number offset : ℕ) → (bytes : List ℕ) → Edit
+  truncate : (number size : ℕ) → Edit
+  change_mode : (number mode : ℕ) → Edit
+  set_file : (number mode size : ℕ) → Edit
+
+-- what a record of the log says: what it does, and when, where the file system keeps times
+pub record Change : Type 0 where
+  pub time : Option Time
+  pub edit : Edit
+
+abbrev pub stamped : Option Time → Edit → Change
+stamped time edit = record { time = time; edit = edit }
 
 -- the object that a record makes, with its one name; a file has no bytes and a directory no names
 abbrev pub node_of : Made → Node
@@ -58,16 +70,43 @@ with_size number size v = with_node number (with_file_bytes (resized size) (v nu
 abbrev pub with_bits : ℕ → ℕ → Volume → Volume
 with_bits number mode v = with_node number (with_node_mode mode (v number)) v
 
+-- what a record does to names, bytes and modes
+abbrev pub edited : Edit → Volume → Volume
+edited (create number parent made name) v = created number parent name (node_of made) v
+edited (link number parent name) v = linked number parent name v
+edited (remove_name parent name) v = unnamed parent name v
+edited (rename parent name new_parent new_name) v = renamed parent name new_parent new_name v
+edited (write number offset bytes) v = with_node number (with_file_bytes (written offset bytes) (v number)) v
+edited (truncate number size) v = with_size number size v
+edited (change_mode number mode) v = with_bits number mode v
+edited (set_file number mode size) v = with_bits number mode (with_size number size v)
+
+-- what a record touches
+abbrev pub touches_of : Edit → Volume → Touches
+touches_of (create number parent made name) v = touches_entry Data (Some number) (Some parent)
+touches_of (link number parent name) v = touches_entry Status (Some number) (Some parent)
+touches_of (remove_name parent name) v = touches_entry Status (entries v parent name) (Some parent)
+touches_of (rename d x k y) v = touches_move (entries v d x) (entries v k y) (Some d) (Some k)
+touches_of (write number offset bytes) v = touches_object Data number
+touches_of (truncate number size) v = touches_object Data number
+touches_of (change_mode number mode) v = touches_object Status number
+touches_of (set_file number mode size) v = touches_object Data number
+
+-- the volume with an object touched, if a number of one is given
+abbrev pub touching_node : Time → Touch → Option ℕ → Volume → Volume
+touching_node time touch None v = v
+touching_node time touch (Some n) v = with_node n (with_node_attributes (touched_at time touch) (v n)) v
+
+-- the volume with all touched that a change touches, where it has a time
+abbrev pub marked_nodes : Option Time → Touches → Volume → Volume
+marked_nodes None touches v = v
+marked_nodes (Some time) touches v =
+    touching_node time Data touches.new_parent (touching_node time Data touches.parent
+    (touching_node time Status touches.replaced (touching_node time touches.touch touches.object v)))
+
 -- the volume that a record leaves, where a file stays that has no name any more
 abbrev pub applied : Change → Volume → Volume
-applied (create number parent made name) v = created number parent name (node_of made) v
-applied (link number parent name) v = linked number parent name v
-applied (remove_name parent name) v = unnamed parent name v
-applied (rename parent name new_parent new_name) v = renamed parent name new_parent new_name v
-applied (write number offset bytes) v = with_node number (with_file_bytes (written offset bytes) (v number)) v
-applied (truncate number size) v = with_size number size v
-applied (change_mode number mode) v = with_bits number mode v
-applied (set_file number mode size) v = with_bits number mode (with_size number size v)
+applied change v = marked_nodes change.time (touches_of change.edit v) (edited change.edit v)
 
 -- the number k lies below n, or is it
 abbrev pub IsBelow : Entries → ℕ → ℕ → Type 0
@@ -138,19 +177,25 @@ pub record CanRename (limits : Limits) (v : Volume) (d : ℕ) (x : Name) (k : �
   pub outside : ¬ IsBelow (entries v) number k
   pub replaces : CanReplace limits v d k y number (entries v k y)
 
--- a record applies to a volume within limits: its numbers have the right kinds, its names can
--- be taken away or put in, and no limit is passed
-abbrev pub Applies : Limits → Volume → Change → Type 0
-Applies limits v (create number parent made name) = CanCreate limits v number parent made name
-Applies limits v (link number parent name) = CanLink limits v number parent name
-Applies limits v (remove_name parent name) = CanUnname v parent name
-Applies limits v (rename parent name new_parent new_name) = CanRename limits v parent name new_parent new_name
-Applies limits v (write number offset bytes) =
+-- what a record does can be done to a volume within limits: its numbers have the right kinds, its
+-- names can be taken away or put in, and no limit is passed
+abbrev pub CanEdit : Limits → Volume → Edit → Type 0
+CanEdit limits v (create number parent made name) = CanCreate limits v number parent made name
+CanEdit limits v (link number parent name) = CanLink limits v number parent name
+CanEdit limits v (remove_name parent name) = CanUnname v parent name
+CanEdit limits v (rename parent name new_parent new_name) = CanRename limits v parent name new_parent new_name
+CanEdit limits v (write number offset bytes) =
     IsTrue (is_file_node (v number)) × (1 ≤ length bytes) × (length bytes ≤ TRANSFER_BYTES) × (offset + length bytes ≤ limits.file_bytes)
-Applies limits v (truncate number size) = IsTrue (is_file_node (v number)) × (size ≤ limits.file_bytes)
-Applies limits v (change_mode number mode) =
+CanEdit limits v (truncate number size) = IsTrue (is_file_node (v number)) × (size ≤ limits.file_bytes)
+CanEdit limits v (change_mode number mode) =
     IsTrue (is_file_node (v number) || is_directory_node (v number)) × (mode ≤ MODE_BITS)
-Applies limits v (set_file number mode size) = IsTrue (is_file_node (v number)) × (mode ≤ MODE_BITS) × (size ≤ limits.file_bytes)
+CanEdit limits v (set_file number mode size) = IsTrue (is_file_node (v number)) × (mode ≤ MODE_BITS) × (size ≤ limits.file_bytes)
+
+-- a record applies to a volume within limits: what it does can be done, and it has a time only where
+-- the file system keeps times
+pub record Applies (limits : Limits) (v : Volume) (change : Change) : Type 0 where
+  pub time : KeepsTime limits.has_attributes change.time
+  pub edit : CanEdit limits v change.edit
 
 -- records that apply one after the other lead from one volume to another
 abbrev pub Replays : Limits → Volume → List Change → Volume → Type 0
@@ -172,16 +217,20 @@ pub record Extends (running replayed : Volume) : Type 0 where
 abbrev pub size_before : Volume → ℕ → ℕ
 size_before v number = length (unwrap_or (bytes_of_node (v number)) [])
 
--- the work that a record makes for a consistency point, by the volume that it changes
+-- the work that what a record does makes for a consistency point, by the volume that it changes
+abbrev pub work_by : Volume → Edit → Work
+work_by v (create number parent made name) = adds_name
+work_by v (link number parent name) = adds_name
+work_by v (remove_name parent name) = removes_name
+work_by v (rename parent name new_parent new_name) = adds_name
+work_by v (write number offset bytes) = puts_bytes (size_before v number) offset (length bytes)
+work_by v (truncate number size) = changes_size (size_before v number) size
+work_by v (change_mode number mode) = changes_bits
+work_by v (set_file number mode size) = changes_size (size_before v number) size
+
+-- the same of a record
 abbrev pub work_of : Volume → Change → Work
-work_of v (create number parent made name) = adds_name
-work_of v (link number parent name) = adds_name
-work_of v (remove_name parent name) = removes_name
-work_of v (rename parent name new_parent new_name) = adds_name
-work_of v (write number offset bytes) = puts_bytes (size_before v number) offset (length bytes)
-work_of v (truncate number size) = changes_size (size_before v number) size
-work_of v (change_mode number mode) = changes_bits
-work_of v (set_file number mode size) = changes_size (size_before v number) size
+work_of v change = work_by v change.edit
 
 -- what records cost that change a volume one after the other
 abbrev pub cost_of_all : Costs → Volume → List Change → ℕ

@@ -1,7 +1,9 @@
 -- The state of a file system, and what a mount finds of it.
-use Rattle.std.specs.Prelude.{ℕ, ◌≡◌, ◌≢◌, ◌≤◌, All, AllPairs, length, List, [], None}
+use Rattle.std.specs.Prelude.{ℕ, ◌≡◌, ◌≢◌, ◌≤◌, if◌then◌else◌, All, AllPairs, length, List, [], Option, Some, None}
 use Rattle.model.specs.declared.limits.TheConstants.{SNAPSHOT_NAME_BYTES}
 use Rattle.model.specs.declared.limits.Limits.{Limits}
+use Rattle.model.specs.declared.time.Time.{Time}
+use Rattle.model.specs.Attributes.{epoch}
 use Rattle.model.specs.Paths.{Name}
 use Rattle.model.specs.Trees.{Tree, IsTree, HasPath, root_alone}
 
@@ -39,6 +41,15 @@ pub record IsState (s : State) : Type 0 where
 -- a file system as it is made: a root directory of mode 0755, and no snapshots
 abbrev pub empty : Limits → State
 empty limits = record { limits = limits; tree = root_alone 0o755; snapshots = []; mark = going }
+
+-- the time of calls on a file system with these limits, where it keeps times: always the Epoch, as
+-- no call says another one yet
+abbrev pub time_under : Limits → Option Time
+time_under limits = if limits.has_attributes then Some epoch else None
+
+-- the same in a state
+abbrev pub now_of : State → Option Time
+now_of s = time_under s.limits
 
 -- the state with another tree
 abbrev pub with_tree : Tree → State → State

@@ -14,12 +14,13 @@ use Rattle.model.specs.declared.limits.Limits.{Limits}
 use Rattle.model.specs.Paths.{Name, Tests, first_refusal}
 use Rattle.model.specs.Counting.{Counts}
 use Rattle.model.specs.Trees.{Tree, IsUsed}
-use Rattle.model.specs.States.{State, with_tree, with_snapshots, ForgetsOpenFiles}
+use Rattle.model.specs.declared.time.Time.{Time}
+use Rattle.model.specs.States.{State, now_of, with_tree, with_snapshots, ForgetsOpenFiles}
 use Rattle.model.specs.Room.{Need, nothing, a_snapshot, a_restore, Room, reserved_of}
 use Rattle.model.specs.Outcomes.{Outcome}
 use Rattle.model.specs.Reading.{lists, tells_entries, stats, reads_link, tells_extent, gets}
 use Rattle.model.specs.Changing.{makes_directory, makes_symlink, removes_directory, unlinks, links, renames, changes_mode, truncates, sets}
-use Rattle.model.specs.Descriptors.{opens, closes, reads, reads_from, stores, writes, writes_to, seeks, truncates_open, stats_open, syncs_open}
+use Rattle.model.specs.Descriptors.{opens, closes, reads, reads_from, stores, writes, writes_to, seeks, truncates_open, changes_open_mode, stats_open, syncs_open}
 
 -- what a command comes to: its reply, the state that it leaves, and what it needs of room
 abbrev pub Step : Type 1
@@ -37,25 +38,25 @@ passing s tests rest = elim (first_refusal tests) [ Some errno ↦ says s (Refus
 abbrev pub on_tree : State → Outcome → Step
 on_tree s outcome reply new need = outcome reply new.tree need × (new ≡ with_tree new.tree s)
 
--- what each call by a path comes to on a tree
-abbrev pub calls : Limits → Tree → PathCall → Outcome
-calls limits t (call.List path) = lists limits t path
-calls limits t (call.Entries path after count) = tells_entries limits t path after count
-calls limits t (call.Stat path) = stats limits t true path
-calls limits t (call.Lstat path) = stats limits t false path
-calls limits t (call.Readlink path) = reads_link limits t path
-calls limits t (call.Get path offset count) = gets limits t path offset count
-calls limits t (call.Mkdir path mode) = makes_directory limits t path mode
-calls limits t (call.Rmdir path) = removes_directory limits t path
-calls limits t (call.Unlink path) = unlinks limits t path
-calls limits t (call.Link old path) = links limits t old path
-calls limits t (call.Symlink text path) = makes_symlink limits t text path
-calls limits t (call.Rename old path) = renames limits t false old path
-calls limits t (call.RenameNew old path) = renames limits t true old path
-calls limits t (call.Chmod path mode) = changes_mode limits t path mode
-calls limits t (call.Truncate path size) = truncates limits t path size
-calls limits t (call.Store path offset given) = stores limits t path offset given
-calls limits t (call.Set path settings) = sets limits t path settings
+-- what each call by a path comes to on a tree, at this time, where the file system keeps times
+abbrev pub calls : Limits → Option Time → Tree → PathCall → Outcome
+calls limits now t (call.List path) = lists limits t path
+calls limits now t (call.Entries path after count) = tells_entries limits t path after count
+calls limits now t (call.Stat path) = stats limits t true path
+calls limits now t (call.Lstat path) = stats limits t false path
+calls limits now t (call.Readlink path) = reads_link limits t path
+calls limits now t (call.Get path offset count) = gets limits t path offset count
+calls limits now t (call.Mkdir path mode) = makes_directory limits now t path mode
+calls limits now t (call.Rmdir path) = removes_directory limits now t path
+calls limits now t (call.Unlink path) = unlinks limits now t path
+calls limits now t (call.Link old path) = links limits now t old path
+calls limits now t (call.Symlink text path) = makes_symlink limits now t text path
+calls limits now t (call.Rename old path) = renames limits now t false old path
+calls limits now t (call.RenameNew old path) = renames limits now t true old path
+calls limits now t (call.Chmod path mode) = changes_mode limits now t path mode
+calls limits now t (call.Truncate path size) = truncates limits now t path size
+calls limits now t (call.Store path offset given) = stores limits now t path offset given
+calls limits now t (call.Set path settings) = sets limits now t path settings
 
 -- a call that only reads
 abbrev pub is_reading_call : PathCall → Bool
@@ -112,7 +113,7 @@ abbrev pub views : State → Name → PathCall → Step
 views s name c = elim (frozen s name) [
   | None ↦ says s (Refused NOSNAP)
   | Some pair ↦ passing s ((not (is_reading_call c), EROFS) ∷ [])
-      (λ reply new need. calls s.limits pair.1 c reply pair.1 need × (new ≡ s))
+      (λ reply new need. calls s.limits (now_of s) pair.1 c reply pair.1 need × (new ≡ s))
 ]
 
 -- what `statfs` tells where so many numbers are used
@@ -133,16 +134,17 @@ tells_usage room s reply new need = (taken : ℕ) × Counts (IsUsed s.tree) take
 -- the reply, the new state and the need of a command, where nothing comes in its way; `df`, `statfs`
 -- and `extent` tell the room at the answer
 abbrev pub WouldStep : Room → State → Command → Step
-WouldStep room s (command.Path c) = on_tree s (calls s.limits s.tree c)
-WouldStep room s (command.Open path flags mode below) = on_tree s (opens false below s.limits s.tree path flags mode)
-WouldStep room s (command.OpenStat path flags mode below) = on_tree s (opens true below s.limits s.tree path flags mode)
+WouldStep room s (command.Path c) = on_tree s (calls s.limits (now_of s) s.tree c)
+WouldStep room s (command.Open path flags mode below) = on_tree s (opens false below s.limits (now_of s) s.tree path flags mode)
+WouldStep room s (command.OpenStat path flags mode below) = on_tree s (opens true below s.limits (now_of s) s.tree path flags mode)
 WouldStep room s (command.Close fd) = on_tree s (closes s.tree fd)
 WouldStep room s (command.Read fd count) = on_tree s (reads s.tree fd count)
-WouldStep room s (command.Write fd given) = on_tree s (writes s.limits s.tree fd given)
+WouldStep room s (command.Write fd given) = on_tree s (writes s.limits (now_of s) s.tree fd given)
 WouldStep room s (command.Pread fd offset count) = on_tree s (reads_from s.tree fd offset count)
-WouldStep room s (command.Pwrite fd offset given) = on_tree s (writes_to s.limits s.tree fd offset given)
+WouldStep room s (command.Pwrite fd offset given) = on_tree s (writes_to s.limits (now_of s) s.tree fd offset given)
 WouldStep room s (command.Lseek fd whence offset) = on_tree s (seeks s.tree fd whence offset)
-WouldStep room s (command.Ftruncate fd size) = on_tree s (truncates_open s.limits s.tree fd size)
+WouldStep room s (command.Ftruncate fd size) = on_tree s (truncates_open s.limits (now_of s) s.tree fd size)
+WouldStep room s (command.Fchmod fd mode) = on_tree s (changes_open_mode (now_of s) s.tree fd mode)
 WouldStep room s (command.Fstat fd) = on_tree s (stats_open s.tree fd)
 WouldStep room s (command.Fsync fd) = on_tree s (syncs_open s.tree fd)
 WouldStep room s (command.Extent path offset) = on_tree s (tells_extent s.limits s.tree room.stored path offset)

@@ -2,6 +2,7 @@
 
 ghost use Rattle.std.specs.Prelude.{◌≡◌, ◌↔◌, IsTrue};
 ghost use Rattle.model.specs.Attributes.{AreAttributes, HaveOnlyMode, new_attributes, no_attributes, set_mode};
+ghost use Rattle.model.specs.Touches.{touched_at};
 ghost use Rattle.model.specs.declared.limits.TheConstants.{LINK_MODE};
 
 use crate::{LINK_MODE, Mode, Time};
@@ -20,6 +21,15 @@ pub struct Attributes {
     pub changed: Time,
     /// How many objects had been made when it was, itself among them; 0 of the root directory.
     pub generation: u64,
+}
+
+/// What of an object a change touches (POSIX.1-2017, Base Definitions, "File Times Update").
+#[derive(Clone, Copy, Debug, PartialEq, Eq)]
+pub enum Touch {
+    /// Its bytes or its names, and with them its status.
+    Data,
+    /// Its status alone.
+    Status,
 }
 
 impl Attributes {
@@ -74,6 +84,26 @@ impl Attributes {
         ensures { result ≡ set_mode mode self }
     {
         Attributes { mode, ..self }
+    }
+
+    /// These of an object that is touched at this time.
+    pub fn touched(self, time: Time, touch: Touch) -> Attributes
+        ensures { result ≡ touched_at time touch self }
+    {
+        match touch {
+            Touch::Data => {
+                let changed = time;
+                Attributes {
+                    modified: time,
+                    changed,
+                    ..self
+                }
+            }
+            Touch::Status => Attributes {
+                changed: time,
+                ..self
+            },
+        }
     }
 
     /// Their types hold them to their limits. It does nothing.

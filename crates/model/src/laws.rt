@@ -155,7 +155,9 @@ pub fn commands_are_bounded(command: &Command)
     match command {
         Command::Path(call) => path_calls_are_bounded(call),
         Command::Within { call, .. } => path_calls_are_bounded(call),
-        Command::Open { mode, .. } | Command::OpenStat { mode, .. } => {
+        Command::Open { mode, .. }
+        | Command::OpenStat { mode, .. }
+        | Command::Fchmod { mode, .. } => {
             let _ = mode.bits();
         }
         _ => {}

@@ -15,7 +15,7 @@ mod reply;
 mod text;
 mod time;
 
-pub use attributes::Attributes;
+pub use attributes::{Attributes, Touch};
 pub use command::{Access, Command, Flags, PathCall, Settings, Whence};
 pub use cookies::cookie_of;
 pub use costs::Costs;

@@ -3,6 +3,7 @@ use Rattle.std.proofs.Common.{◌≡◌, ◌≤◌, arith, ◌⊎◌, inl, inr, 
 use Rattle.std.specs.Prelude.{IsTrue, IsFalse, MatchBool, ◌↔◌}
 use Rattle.std.proofs.lemmas.Bool.{false≢true}
 use Rattle.layout.specs.StateLimits.{costs_of}
+use Rattle.layout.specs.declared.trees.Layout.TheVariants.{Plain}
 use Rattle.station.specs.Images.{Images}
 use Rattle.station.specs.Moments.{Meaning, EachCut, IsSameStation, LeavesOnly, MayGrow}
 use Rattle.station.proofs.Moments.{grown_later, weaker}
@@ -111,7 +112,7 @@ module _ (s : State) (command : Command) (new t : State) where
 
 -- no room is reckoned
 abbrev pub no_room : Room
-no_room = record { costs = costs_of 0; blocks = 0; free = 0; pledged = 0; is_covered = false; orphans_of = λ name. 0; stored = λ n k. true }
+no_room = record { costs = costs_of Plain 0; blocks = 0; free = 0; pledged = 0; is_covered = false; orphans_of = λ name. 0; stored = λ n k. true }
 
 -- what came in the way of a command, but for the history of the station
 pub record Came {S : Type 0} {G : Ghosts S} (old : Mounted S G) (command : Command) (new : Mounted S G) (c : Circumstances) : Type 0 where

@@ -16,6 +16,7 @@ no_checkpoint (command.Pread fd offset count) is checkpointing = checkpointing
 no_checkpoint (command.Pwrite fd offset given) is checkpointing = checkpointing
 no_checkpoint (command.Lseek fd whence offset) is checkpointing = checkpointing
 no_checkpoint (command.Ftruncate fd size) is checkpointing = checkpointing
+no_checkpoint (command.Fchmod fd mode) is checkpointing = checkpointing
 no_checkpoint (command.Fstat fd) is checkpointing = checkpointing
 no_checkpoint (command.Fsync fd) is checkpointing = checkpointing
 no_checkpoint (command.Extent path offset) is checkpointing = checkpointing

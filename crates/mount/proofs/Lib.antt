@@ -14,4 +14,5 @@ mod BatchSpans
 mod WaitingLemmas
 mod WaitLemmas
 mod CommitLemmas
+mod CommandLemmas
 mod ReplyLemmas

@@ -103,6 +103,14 @@ impl<S: Station> Fs<S> {
         self.apply_for_done(Command::Ftruncate { fd, size })
     }
 
+    /// `fchmod`: gives the file this mode, whatever it is open for.
+    pub fn fchmod(&mut self, fd: u32, mode: Mode) -> Result<(), Errno>
+        ensures { AppliesCommand self.old self.new (Command.Fchmod fd mode)
+            (reply_of done_reply result) }
+    {
+        self.apply_for_done(Command::Fchmod { fd, mode })
+    }
+
     /// `fstat`: what `stat` tells, of the file.
     pub fn fstat(&mut self, fd: u32) -> Result<Stat, Errno>
         ensures { AppliesCommand self.old self.new (Command.Fstat fd) (reply_of Reply.Stat result) }

@@ -3,7 +3,6 @@ use Rattle.std.proofs.Common.{◌≡◌, ◌+◌, ◌-◌, ◌++◌, ◌≤◌, 
 use Rattle.std.proofs.Math.Path.{fun_ext}
 use Rattle.std.proofs.lemmas.Bool.{cases_eq}
 use Rattle.model.specs.declared.limits.Limits.{Limits}
-use Rattle.layout.specs.StateLimits.{limits_of}
 use Rattle.layout.specs.Bytes.{zeros}
 use Rattle.layout.specs.FileBytes.{byte_in, first_bytes, EndsAt}
 use Rattle.layout.specs.Inode.{FitsKind}
@@ -12,8 +11,10 @@ use Rattle.layout.specs.declared.inode.Inode.{Inode}
 use Rattle.layout.specs.declared.kind.Kind.{Kind}
 use Rattle.layout.specs.declared.kind.Kind.TheVariants as kinds
 use Rattle.model.specs.Edits.{resized, written}
-use Rattle.model.specs.Records.{Applies, applied, size_before, with_file_bytes, with_node_mode, work_of}
+use Rattle.model.specs.Records.{CanEdit, edited, size_before, touches_of, with_file_bytes, with_node_mode, work_by}
 use Rattle.model.specs.Room.{cost}
+use Rattle.model.specs.Touches.{touches_object}
+use Rattle.model.specs.declared.attributes.Touch.TheVariants.{Data}
 use Rattle.model.specs.Volumes.{Node, Volume, file_node, is_file_node, with_node}
 use Rattle.model.specs.declared.errno.Errno.TheVariants.{EFBIG}
 use Rattle.images.specs.Replaying.{LeavesPlace}
@@ -33,9 +34,9 @@ use Rattle.inofile.specs.Objects.{EndsIn, IsObjectIn}
 use Rattle.inofile.specs.Settled.{content_of_object}
 use Rattle.inofile.specs.declared.inode_file.InodeFile.{InodeFile}
 use Rattle.records.specs.Contents.{KeepsRecordBounds, KeepsRewriteBounds, Resizes, RewriteRoom, Rewrites, RewritesFile, bytes_after, end_of, mode_after, rewriting}
-use Rattle.records.specs.Obstacles.{IsObstacle, tells_obstacle}
-use Rattle.records.specs.Prepared.{KnowsFile}
-use Rattle.records.specs.Room.{StoresIn}
+use Rattle.records.specs.Obstacles.{BarsEdit, may_bar}
+use Rattle.records.specs.Plans.{KnowsEdited}
+use Rattle.records.specs.Room.{StoresIn, step_costs}
 use Rattle.records.specs.Steps.{with_given_mode}
 use Rattle.records.specs.declared.contents.Rewrite.{Rewrite}
 use Rattle.records.specs.declared.contents.Rewrite.TheVariants.{Write, Truncate, Set}
@@ -150,12 +151,12 @@ bytes_put detail disk inodes settled o found f change new was is rewrites done =
 
 -- ---- the record of a change
 
-pub file_changed : (limits : Limits) (v : Volume) (n : ℕ) (rewrite : Rewrite) → Applies limits v (rewriting n rewrite) → IsTrue (is_file_node (v n))
+pub file_changed : (limits : Limits) (v : Volume) (n : ℕ) (rewrite : Rewrite) → CanEdit limits v (rewriting n rewrite) → IsTrue (is_file_node (v n))
 file_changed limits v n (Write offset bytes) can = can.0
 file_changed limits v n (Truncate size) can = can.0
 file_changed limits v n (Set mode size) can = can.0
 
-pub rewriting_applies : (limits : Limits) (v : Volume) (n : ℕ) (rewrite : Rewrite) → IsTrue (is_file_node (v n)) → KeepsRewriteBounds limits rewrite → Applies limits v (rewriting n rewrite)
+pub rewriting_applies : (limits : Limits) (v : Volume) (n : ℕ) (rewrite : Rewrite) → IsTrue (is_file_node (v n)) → KeepsRewriteBounds limits rewrite → CanEdit limits v (rewriting n rewrite)
 rewriting_applies limits v n (Write offset bytes) is keeps = (is, keeps.0, keeps.1, keeps.2)
 rewriting_applies limits v n (Truncate size) is keeps = (is, keeps)
 rewriting_applies limits v n (Set mode size) is keeps = (is, keeps.0, keeps.1)
@@ -173,17 +174,17 @@ changed_twice n o f v =
       | inr other ↦ node_other n k (f (with_node n o v n)) (with_node n o v) other ∙ node_other n k o v other ∙ sym (node_other n k (f o) v other)
     ])
 
-pub rewriting_applied : (n : ℕ) (rewrite : Rewrite) (v : Volume) → applied (rewriting n rewrite) v ≡ with_node n (with_given_mode (mode_after rewrite) (with_file_bytes (bytes_after rewrite) (v n))) v
+pub rewriting_applied : (n : ℕ) (rewrite : Rewrite) (v : Volume) → edited (rewriting n rewrite) v ≡ with_node n (with_given_mode (mode_after rewrite) (with_file_bytes (bytes_after rewrite) (v n))) v
 rewriting_applied n (Write offset bytes) v = refl
 rewriting_applied n (Truncate size) v = refl
 rewriting_applied n (Set mode size) v = changed_twice n (with_file_bytes (resized size) (v n)) (with_node_mode mode) v
 
-pub rewriting_knows : (n : ℕ) (rewrite : Rewrite) (s : InodeFile) → IsKnown s n → KnowsFile s (rewriting n rewrite)
+pub rewriting_knows : (n : ℕ) (rewrite : Rewrite) (s : InodeFile) → IsKnown s n → KnowsEdited s (rewriting n rewrite)
 rewriting_knows n (Write offset bytes) s known = known
 rewriting_knows n (Truncate size) s known = known
 rewriting_knows n (Set mode size) s known = known
 
-pub bounds_kept : (limits : Limits) (v : Volume) (n : ℕ) (rewrite : Rewrite) → Applies limits v (rewriting n rewrite) → KeepsRewriteBounds limits rewrite
+pub bounds_kept : (limits : Limits) (v : Volume) (n : ℕ) (rewrite : Rewrite) → CanEdit limits v (rewriting n rewrite) → KeepsRewriteBounds limits rewrite
 bounds_kept limits v n (Write offset bytes) can = (can.1, can.2, can.3)
 bounds_kept limits v n (Truncate size) can = can.1
 bounds_kept limits v n (Set mode size) can = (can.1, can.2)
@@ -206,29 +207,35 @@ told_both (Err e) P Q one two = tt
 
 -- ---- a change that doesn't apply
 
-pub tells_rewriting : (n : ℕ) (rewrite : Rewrite) → IsTrue (tells_obstacle (rewriting n rewrite) EFBIG)
+pub tells_rewriting : (n : ℕ) (rewrite : Rewrite) → IsTrue (may_bar (rewriting n rewrite) EFBIG)
 tells_rewriting n (Write offset bytes) = refl
 tells_rewriting n (Truncate size) = refl
 tells_rewriting n (Set mode size) = refl
 
-pub bars_rewriting : (limits : Limits) (v : Volume) (n : ℕ) (rewrite : Rewrite) → (Applies limits v (rewriting n rewrite) → ⊥) → IsObstacle limits v (rewriting n rewrite) EFBIG
+-- it touches the file's data
+pub rewriting_touches : (n : ℕ) (rewrite : Rewrite) (v : Volume) → touches_object Data n ≡ touches_of (rewriting n rewrite) v
+rewriting_touches n (Write offset bytes) v = refl
+rewriting_touches n (Truncate size) v = refl
+rewriting_touches n (Set mode size) v = refl
+
+pub bars_rewriting : (limits : Limits) (v : Volume) (n : ℕ) (rewrite : Rewrite) → (CanEdit limits v (rewriting n rewrite) → ⊥) → BarsEdit limits v (rewriting n rewrite) EFBIG
 bars_rewriting limits v n (Write offset bytes) never = never
 bars_rewriting limits v n (Truncate size) never = never
 bars_rewriting limits v n (Set mode size) never = never
 
 -- ---- what it may store
 
--- a change stores so many blocks more at the most, and two are left of what its record costs
-pub rewrite_within : (s : Sizes) (n : ℕ) (rewrite : Rewrite) (o : Option Object) (change : FileUpdate) (v : Volume) → IfSome o (λ x. x.file.size ≡ size_before v n) → RewriteRoom rewrite o change
-    → (more : ℕ) × StoresIn o change more × (more + 2 ≤ cost (limits_of s).costs (work_of v (rewriting n rewrite)))
-rewrite_within s n (Write offset bytes) None change v same room = (0, tt, omega (arith, write_costs s (size_before v n) offset (length bytes.now)))
-rewrite_within s n (Write offset bytes) (Some o) change v same room = (
+-- a change stores so many blocks more at the most, and two are left of what the steps of its record cost
+pub rewrite_within : (n : ℕ) (rewrite : Rewrite) (o : Option Object) (change : FileUpdate) (v : Volume) → IfSome o (λ x. x.file.size ≡ size_before v n) → RewriteRoom rewrite o change
+    → (more : ℕ) × StoresIn o change more × (more + 2 ≤ cost step_costs (work_by v (rewriting n rewrite)))
+rewrite_within n (Write offset bytes) None change v same room = (0, tt, omega (arith, write_costs (size_before v n) offset (length bytes.now)))
+rewrite_within n (Write offset bytes) (Some o) change v same room = (
   write_room o.file.size offset (length bytes.now),
   room,
-  subst (λ (size : ℕ). write_room size offset (length bytes.now) + 2 ≤ cost (limits_of s).costs (work_of v (rewriting n (Write offset bytes)))) (sym same)
-      (write_costs s (size_before v n) offset (length bytes.now)),
+  subst (λ (size : ℕ). write_room size offset (length bytes.now) + 2 ≤ cost step_costs (work_by v (rewriting n (Write offset bytes)))) (sym same)
+      (write_costs (size_before v n) offset (length bytes.now)),
 )
-rewrite_within s n (Truncate size) None change v same room = (0, tt, omega arith)
-rewrite_within s n (Truncate size) (Some o) change v same room = (size_room o.file.size size, room, omega arith)
-rewrite_within s n (Set mode size) None change v same room = (0, tt, omega arith)
-rewrite_within s n (Set mode size) (Some o) change v same room = (size_room o.file.size size, room, omega arith)
+rewrite_within n (Truncate size) None change v same room = (0, tt, omega arith)
+rewrite_within n (Truncate size) (Some o) change v same room = (size_room o.file.size size, room, omega arith)
+rewrite_within n (Set mode size) None change v same room = (0, tt, omega arith)
+rewrite_within n (Set mode size) (Some o) change v same room = (size_room o.file.size size, room, omega arith)

@@ -4,7 +4,7 @@ use Rattle.std.proofs.lemmas.List.{get_or_past}
 use Rattle.model.specs.declared.limits.Limits.{Limits}
 use Rattle.layout.specs.FileBytes.{byte_in, first_bytes}
 use Rattle.layout.specs.declared.kind.Kind.TheVariants as kinds
-use Rattle.model.specs.Records.{Change}
+use Rattle.model.specs.Records.{Edit}
 use Rattle.model.specs.Volumes.{IsGraph, Node, Volume, file_node, link_node}
 use Rattle.images.specs.Contents.{Content, StandsAs, content_bytes}
 use Rattle.images.specs.Sizes.{CanReadBlock, StandsAsIn}
@@ -13,9 +13,9 @@ use Rattle.inofile.specs.Objects.{EndsIn}
 use Rattle.layout.proofs.PartLaws.{length-first_bytes}
 use Rattle.inode.specs.Files.{IsFile}
 use Rattle.inode.specs.declared.file.File.{File}
-use Rattle.records.specs.Preparing.{IsKnownVolume, IsVolumeFor}
+use Rattle.records.specs.Planning.{IsKnownVolume, IsVolumeForEdit}
 
-pub known_of : (detail : Detail) (limits : Limits) (change : Change) (v : Volume) → IsVolumeFor detail limits change v → IsKnownVolume detail limits v
+pub known_of : (detail : Detail) (limits : Limits) (change : Edit) (v : Volume) → IsVolumeForEdit detail limits change v → IsKnownVolume detail limits v
 known_of by_bytes limits change v volume = volume
 known_of by_sizes limits change v volume = volume.0
 

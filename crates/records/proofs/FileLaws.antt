@@ -3,14 +3,14 @@ use Rattle.std.proofs.Common.{◌≡◌, ◌≢◌, ◌≤◌, ℕ, ◌-◌, ◌
 use Rattle.std.proofs.lemmas.Bool.{false≢true}
 use Rattle.std.proofs.lemmas.Bool.Decides.{nat_tests}
 use Rattle.model.specs.declared.limits.Limits.{Limits}
-use Rattle.layout.specs.StateLimits.{limits_of}
 use Rattle.layout.specs.Directory.{IsEntry}
 use Rattle.layout.specs.declared.inode.Inode.{Inode}
 use Rattle.layout.specs.declared.kind.Kind.{Kind}
 use Rattle.layout.specs.declared.kind.Kind.TheVariants as kinds
 use Rattle.model.specs.declared.attributes.Attributes.{Attributes}
 use Rattle.model.specs.Paths.{Name, IsName}
-use Rattle.model.specs.Records.{Change, IsEmpty, applied, work_of}
+use Rattle.model.specs.Records as records
+use Rattle.model.specs.Records.{IsEmpty, edited, work_by}
 use Rattle.model.specs.Room.{cost}
 use Rattle.model.specs.Volumes.{Node, Volume, directory_node, file_node, link_node, entries, is_directory_node, is_file_node, with_entry, with_name_less, with_name_more, with_node}
 use Rattle.images.specs.Contents.{Content}
@@ -26,12 +26,12 @@ use Rattle.inofile.specs.Inodes.{loaded}
 use Rattle.inofile.specs.declared.inode_file.InodeFile.{InodeFile}
 use Rattle.images.specs.Soundness.{Detail}
 use Rattle.inofile.proofs.DetailLaws.{HasSizeOf}
-use Rattle.records.specs.Preparing.{IsKnownVolume}
+use Rattle.records.specs.Planning.{IsKnownVolume}
 use Rattle.records.proofs.DetailLaws.{graph_of, numbers_of}
 use Rattle.records.specs.Entering.{EditsIn, with_node_names}
 use Rattle.records.specs.Moving.{IsSomeAlone}
-use Rattle.records.specs.Prepared.{AreBeside, DoesIn, IsApartFrom, IsReady, KnowsFile}
-use Rattle.records.specs.Room.{SomeRoom, StepRoom, UpdateRoom}
+use Rattle.records.specs.Plans.{AreBeside, DoesEditIn, IsApartFrom, IsPlanReady, KnowsEdited}
+use Rattle.records.specs.Room.{SomeRoom, StepRoom, UpdateRoom, step_costs}
 use Rattle.records.specs.Steps.{FitsUpdate, IsAlone, IsApart, IsAtHand, IsBeside, IsFileWithLinks, IsSomeApart, IsSomeAtHand, Steps, StepsSome, TakesSome, TakesUpdate, Updates, with_node_links}
 use Rattle.records.specs.declared.steps.ObjectUpdate.{ObjectUpdate}
 use Rattle.records.specs.declared.steps.Update.{Update}
@@ -108,17 +108,17 @@ apart_none (Some step) = tt
 
 -- memory has room for a step, and for another one, if there is one
 pub ready_two : {s : InodeFile} {first : ObjectUpdate} {next : Option ObjectUpdate} → TakesUpdate s first.number first.update → TakesSome s next → IsSomeApart first.number next
-    → IsReady s (record { first = first; next = next; last = None })
+    → IsPlanReady s (record { first = first; next = next; last = None })
 ready_two {next = next} takes more apart = record { first = takes; next = more; last = tt; next_apart = apart; last_apart = tt; apart = apart_none next }
 
-module _ {detail : Detail} {disk : ℕ → List ℕ} {settled : ℕ → Inode} {s : InodeFile} {v : Volume} {change : Change} where
-  -- a step, and another one, if there is one, do what a record says
-  pub does_two : (first : ObjectUpdate) (next : Option ObjectUpdate) (between : Volume) (k l : ℕ) → Steps detail disk settled s v first between → StepsSome detail disk settled s between next (applied change v)
-      → IsBeside first.number next → StepRoom s first k → SomeRoom s next l → k + l ≤ cost (limits_of s.geometry).costs (work_of v change) → KnowsFile s change
-      → DoesIn detail disk settled s v (record { first = first; next = next; last = None }) change
+module _ {detail : Detail} {disk : ℕ → List ℕ} {settled : ℕ → Inode} {s : InodeFile} {v : Volume} {change : records.Edit} where
+  -- a step, and another one, if there is one, do what an edit says
+  pub does_two : (first : ObjectUpdate) (next : Option ObjectUpdate) (between : Volume) (k l : ℕ) → Steps detail disk settled s v first between → StepsSome detail disk settled s between next (edited change v)
+      → IsBeside first.number next → StepRoom s first k → SomeRoom s next l → k + l ≤ cost step_costs (work_by v change) → KnowsEdited s change
+      → DoesEditIn detail disk settled s v (record { first = first; next = next; last = None }) change
   does_two first next between k l steps more apart room rest within knows = record {
     between = between;
-    second = applied change v;
+    second = edited change v;
     first = steps;
     next = more;
     last = refl;
@@ -139,11 +139,11 @@ module _ {detail : Detail} {disk : ℕ → List ℕ} {settled : ℕ → Inode} {
   pub does_both : (d n : ℕ) (x : Name) (to : Option ℕ) (edit : Edit) (update : Update) (node : Option Node) (k : ℕ) → n ≢ d
       → EditsIn disk s.geometry.inodes (with_name x to) (v d) (loaded s d) edit → piece_count edit ≤ 1
       → Updates detail disk s.geometry.inodes (settled n) (v n) (loaded s n) update node → UpdateRoom (loaded s n) update k
-      → applied change v ≡ with_entry d x to (with_node n node v) → 7 + k ≤ cost (limits_of s.geometry).costs (work_of v change) → KnowsFile s change
-      → DoesIn detail disk settled s v (record { first = record { number = d; update = updates.Names edit }; next = Some (record { number = n; update = update }); last = None }) change
+      → edited change v ≡ with_entry d x to (with_node n node v) → 7 + k ≤ cost step_costs (work_by v change) → KnowsEdited s change
+      → DoesEditIn detail disk settled s v (record { first = record { number = d; update = updates.Names edit }; next = Some (record { number = n; update = update }); last = None }) change
   does_both d n x to edit update node k apart edits few does room same within knows =
       let names : Option Node = with_node_names (with_name x to) (v d) in
-      let both : applied change v ≡ with_node n node (with_node d names v) =
+      let both : edited change v ≡ with_node n node (with_node d names v) =
       same ∙ sym (put_volume n d x to node v apart) ∙ ap (λ (o : Option Node). with_node n node (with_node d o v)) (sym (names_set x to (v d))) in
       does_two (record { number = d; update = updates.Names edit }) (Some (record { number = n; update = update })) (with_node d names v) 7 k (names, (with_name x to, edits, refl), refl)
       (node, subst (λ (o : Option Node). Updates detail disk s.geometry.inodes (settled n) o (loaded s n) update node) (sym (node_other d n names v apart)) does, both)

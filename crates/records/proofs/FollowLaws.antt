@@ -5,10 +5,15 @@ use Rattle.std.proofs.lemmas.Bool.{cases_eq, cond-true, cond-false, eq-eqb, ne_e
 use Rattle.std.proofs.lemmas.List.FromFn.{length-map-range_with_len}
 use Rattle.layout.specs.FileBytes.{byte_in}
 use Rattle.layout.specs.declared.inode.Inode.{Inode}
-use Rattle.model.specs.Records.{Change, applied}
+use Rattle.model.specs.Records.{Edit, edited, marked_nodes, with_node_attributes}
+use Rattle.model.specs.Touches.{Touches}
 use Rattle.model.specs.Trees.{Description}
 use Rattle.model.specs.declared.limits.TheConstants.{OPEN_FILES}
 use Rattle.model.specs.Volumes.{Node, directory_node, file_node, link_node, Volume, IsMounted, is_file_node, is_open, swept, swept_node, with_node}
+use Rattle.model.specs.declared.attributes.Attributes.{Attributes}
+use Rattle.model.specs.declared.time.Time.{Time}
+use Rattle.model.proofs.MarkLemmas.{marked_by, marked_file}
+use Rattle.model.proofs.RecordLemmas.{swept_twice}
 use Rattle.model.proofs.SweepLemmas.{opened_by, stays_open}
 use Rattle.inode.specs.declared.object.Object.{Object}
 use Rattle.inofile.specs.Objects.{IsObject}
@@ -20,10 +25,10 @@ use Rattle.descriptors.specs.Tables.{open_at, table_of}
 use Rattle.descriptors.specs.declared.open_file.OpenFile.{OpenFile}
 use Rattle.descriptors.specs.declared.table.Descriptors.{Descriptors}
 use Rattle.descriptors.proofs.FitLemmas.{fits_same, is_opened, mapped, relinked_figures, relinked_number, resized_figures, resized_number}
-use Rattle.records.specs.Prepared.{Does}
+use Rattle.records.specs.Plans.{DoesEdit}
 use Rattle.records.specs.Steps.{IsBeside}
 use Rattle.records.specs.Sweeping.{OpensFiles, with_object_of, without_file}
-use Rattle.records.specs.declared.prepared.Prepared.{Prepared}
+use Rattle.records.specs.declared.plans.Plan.{Plan}
 use Rattle.records.specs.declared.steps.ObjectUpdate.{ObjectUpdate}
 use Rattle.records.proofs.KindLaws.{file_stands, is_kind}
 use Rattle.images.specs.Soundness.{by_bytes}
@@ -117,12 +122,12 @@ file_before b (Some (link_node attributes text)) is = is
 pub swept_opens : (table : ℕ → Option Description) (w : Volume) → IsMounted (swept table w) table → OpensFiles table w
 swept_opens table w mounted = λ d f e. file_before (is_open table OPEN_FILES f.number) (w f.number) (mounted.files d f e)
 
-module _ (disk : ℕ → List ℕ) (settled : ℕ → Inode) (s : InodeFile) (v : Volume) (p : Prepared) (change : Change) (does : Does disk settled s v p change) (t : Descriptors) where
+module _ (disk : ℕ → List ℕ) (settled : ℕ → Inode) (s : InodeFile) (v : Volume) (p : Plan) (edit : Edit) (does : DoesEdit disk settled s v p edit) (t : Descriptors) where
   abbrev table : ℕ → Option Description
   table = table_of t
 
   abbrev w : Volume
-  w = applied change v
+  w = edited edit v
 
   abbrev one : Volume
   one = without_file table (Some p.first.number) w
@@ -176,7 +181,7 @@ module _ (disk : ℕ → List ℕ) (settled : ℕ → Inode) (s : InodeFile) (v 
           | inl done ↦ same ∙ done
           | inr (same_next, next) ↦ elim (taken_or_beside w v (Some p.first) k refl) [
             | inl done ↦ same ∙ same_next ∙ done
-            | inr (same_first, first) ↦ same ∙ same_next ∙ same_first ∙ sym (rest_stays disk settled s v p change does k first next last)
+            | inr (same_first, first) ↦ same ∙ same_next ∙ same_first ∙ sym (rest_stays disk settled s v p edit does k first next last)
           ]
         ]
       ]
@@ -191,3 +196,25 @@ module _ (disk : ℕ → List ℕ) (settled : ℕ → Inode) (s : InodeFile) (v 
       (λ k opened.
       let is : is_open table OPEN_FILES k ≡ true = ap (λ (t : ℕ → Option Description). is_open t OPEN_FILES k) (sym is_table) ∙ opened in
       ap node_figures (ap (λ (b : Bool). swept_node b (w k)) is ∙ stays_open (w k) ∙ sym (taken_is k is)))
+
+-- ---- what is touched
+
+attributes_figures : (f : Attributes → Attributes) (o : Option Node) → node_figures (with_node_attributes f o) ≡ node_figures o
+attributes_figures f None = refl
+attributes_figures f (Some (directory_node attributes names)) = refl
+attributes_figures f (Some (file_node attributes links bytes)) = refl
+attributes_figures f (Some (link_node attributes text)) = refl
+
+module _ (time : Option Time) (touches : Touches) (w : Volume) where
+  -- a table fits a volume with marks, where it fits the volume
+  pub fits_marked : (t : Descriptors) → FitsVolume t w → FitsVolume t (marked_nodes time touches w)
+  fits_marked t fits = fits_same t w (marked_nodes time touches w) fits (λ k opened. marked_by time touches w node_figures attributes_figures k)
+
+  -- what is swept is mounted, where it is with marks
+  pub mounted_unmarked : (table : ℕ → Option Description) → IsMounted (marked_nodes time touches (swept table w)) table → IsMounted (swept table w) table
+  mounted_unmarked table mounted = record {
+    files = λ d f is. sym (marked_file time touches (swept table w) f.number) ∙ mounted.files d f is;
+    is_swept = λ n. swept_twice (is_open table OPEN_FILES n) (w n);
+    bounded = mounted.bounded;
+    offsets = mounted.offsets;
+  }

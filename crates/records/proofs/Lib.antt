@@ -11,6 +11,9 @@ pub mod Failures
 pub mod Deciding
 pub mod StepLaws
 pub mod RoomLaws
+pub mod MarkLaws
+pub mod LaterLaws
+pub mod Recording
 pub mod ContentLaws
 pub mod RewriteLaws
 pub mod NamingLaws

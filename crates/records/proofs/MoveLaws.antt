@@ -17,7 +17,7 @@ use Rattle.inofile.specs.declared.inode_file.InodeFile.{InodeFile}
 use Rattle.paths.specs.Steps.{found_in}
 use Rattle.paths.specs.declared.lookup.Found.TheVariants as found
 use Rattle.images.specs.Soundness.{Detail}
-use Rattle.records.specs.Preparing.{IsKnownVolume, IsVolumeFor}
+use Rattle.records.specs.Planning.{IsKnownVolume, IsVolumeForEdit}
 use Rattle.records.proofs.DetailLaws.{graph_of, numbers_of}
 use Rattle.records.specs.Entering.{Accepts, HasPlace, names_after, pieces_of, with_node_names}
 use Rattle.records.specs.Moving.{Moves, Replaces, edit_for}
@@ -221,7 +221,7 @@ module _ (detail : Detail) (disk : ℕ → List ℕ) (settled : ℕ → Inode) (
       by (Some m) (Some s) is replaces = replaces.1.0 (same_some is)
 
   -- a directory within its limit takes another name for one that it has
-  pub accepts_move : (limits : Limits) (old : Entry) (entry : Entry) → old.name.now ≡ x → entry.name.now ≡ y → IsVolumeFor detail limits (rename d x k y) v → d ≡ k → Accepts limits (edits.Move old.name entry) (v k)
+  pub accepts_move : (limits : Limits) (old : Entry) (entry : Entry) → old.name.now ≡ x → entry.name.now ≡ y → IsVolumeForEdit detail limits (rename d x k y) v → d ≡ k → Accepts limits (edits.Move old.name entry) (v k)
   accepts_move limits old entry is_old is_new volume same =
       let there : entries v k x ≡ Some n = ap (λ (j : ℕ). entries v j x) (sym same) ∙ moves.there in
       let is = directory_is (v k) (enters_directory (v k) x n there) in
@@ -236,7 +236,7 @@ module _ (detail : Detail) (disk : ℕ → List ℕ) (settled : ℕ → Inode) (
       }
 
   -- and another directory takes a name for what had it, or one more
-  pub accepts_other : (limits : Limits) (entry : Entry) → entry.name.now ≡ y → IsVolumeFor detail limits (rename d x k y) v → d ≢ k → CanRename limits v d x k y → Accepts limits (edit_for entry step) (v k)
+  pub accepts_other : (limits : Limits) (entry : Entry) → entry.name.now ≡ y → IsVolumeForEdit detail limits (rename d x k y) v → d ≢ k → CanRename limits v d x k y → Accepts limits (edit_for entry step) (v k)
   accepts_other limits entry is_new volume other can = by target step refl moves.replaces can.replaces
     where
       by : (o : Option ℕ) (s : Option ObjectUpdate) → target ≡ o → Replaces detail disk settled v n o s → CanReplace limits v d k y can.number o → Accepts limits (edit_for entry s) (v k)

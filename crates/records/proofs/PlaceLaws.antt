@@ -14,7 +14,7 @@ use Rattle.model.proofs.CountLemmas.{one_less, same_count}
 use Rattle.dirs.specs.Directory.{HasCount, with_name}
 use Rattle.images.specs.Replaying.{LeavesPlace}
 use Rattle.images.specs.Soundness.{Detail, by_bytes, by_sizes}
-use Rattle.records.specs.Preparing.{IsVolumeFor}
+use Rattle.records.specs.Planning.{IsVolumeForEdit}
 use Rattle.records.specs.Entering.{Accepts, HasPlace}
 use Rattle.records.specs.Moving.{edit_for}
 use Rattle.records.specs.declared.steps.ObjectUpdate.{ObjectUpdate}
@@ -82,7 +82,7 @@ place_moved limits names x y n count is apart counts most =
 
 -- where the name was in the directory itself
 pub place_inside : (detail : Detail) (limits : Limits) (v : Volume) (d : ℕ) (x : Name) (n k : ℕ) (y : Name) (attributes : Attributes) (names : NameMap) → v k ≡ Some (directory_node attributes names) → names x ≡ Some n
-    → d ≡ k → x ≢ y → IsVolumeFor detail limits (rename d x k y) v → HasPlace limits (with_name x None (with_name y None names))
+    → d ≡ k → x ≢ y → IsVolumeForEdit detail limits (rename d x k y) v → HasPlace limits (with_name x None (with_name y None names))
 place_inside by_bytes limits v d x n k y attributes names is there same apart volume =
     let (count, counts, most) = volume.keeps.children k in
     place_moved limits names x y n count there apart (subst (λ (o : Option Node). Counts (λ (b : Name). IsSome (names_in o b)) count) is counts) most
@@ -99,7 +99,7 @@ place_inside by_sizes limits v d x n k y attributes names is there same apart vo
 
 -- where it was in another one, and the new name goes
 pub place_across : (detail : Detail) (limits : Limits) (v : Volume) (d : ℕ) (x : Name) (m k : ℕ) (y : Name) (attributes : Attributes) (names : NameMap) → v k ≡ Some (directory_node attributes names) → names y ≡ Some m
-    → d ≢ k → IsVolumeFor detail limits (rename d x k y) v → HasPlace limits (with_name y None names)
+    → d ≢ k → IsVolumeForEdit detail limits (rename d x k y) v → HasPlace limits (with_name y None names)
 place_across by_bytes limits v d x m k y attributes names is there other volume =
     let (count, counts, most) = volume.keeps.children k in
     place_left limits names y m count there (subst (λ (o : Option Node). Counts (λ (b : Name). IsSome (names_in o b)) count) is counts) most

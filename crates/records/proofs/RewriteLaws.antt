@@ -5,19 +5,22 @@ use Rattle.std.proofs.lemmas.Bool.{cases_eq, cond-true, cond-false}
 use Rattle.std.proofs.lemmas.Bool.Decides.{nat_tests}
 use Rattle.model.specs.declared.limits.Limits.{Limits}
 use Rattle.layout.specs.declared.kind.Kind.{Kind}
-use Rattle.model.specs.Changing.{sets_both, truncates_file}
-use Rattle.model.specs.Changes.{ChangesTree, TakesFreeNumber}
+use Rattle.model.specs.Changing.{is_idle_size, sets_both, truncates_file}
+use Rattle.model.specs.Changes.{ChangesTree, TakesFree}
 use Rattle.model.specs.Descriptors.{puts}
-use Rattle.model.specs.Edits.{contents, with_bytes, with_mode, written}
+use Rattle.model.specs.Edits.{contents, marked, with_bytes, with_mode, written}
 use Rattle.model.specs.Laws.{RecordsChangeTrees}
 use Rattle.model.specs.Paths.{is_empty}
-use Rattle.model.specs.Records.{Applies, applied, with_file_bytes}
+use Rattle.model.specs.Records.{Applies, Change, applied, edited, marked_nodes, stamped, touches_of, with_file_bytes}
 use Rattle.model.specs.Room.{nothing, logs, changes_size, puts_bytes}
+use Rattle.model.specs.Touches.{Touches, touches_object}
 use Rattle.model.specs.Trees.{Tree, Description}
 use Rattle.model.specs.Volumes.{Node, directory_node, file_node, link_node, Volume, IsMounted, IsVolume, bytes_of_node, is_file_node, is_open, swept, swept_node, tree_of, with_node}
+use Rattle.model.specs.declared.attributes.Touch.TheVariants.{Data}
 use Rattle.model.specs.declared.errno.Errno.TheVariants.{EFBIG}
 use Rattle.model.specs.declared.limits.TheConstants.{OPEN_FILES}
 use Rattle.model.specs.declared.reply.Reply.TheVariants.{Done, Refused, Wrote}
+use Rattle.model.specs.declared.time.Time.{Time}
 use Rattle.records.specs.Contents.{bytes_after, mode_after, rewriting}
 use Rattle.records.specs.Rewriting.{GoesOver}
 use Rattle.records.specs.Steps.{with_given_mode}
@@ -28,6 +31,7 @@ use Rattle.images.specs.Soundness.{Detail}
 use Rattle.images.specs.Sizes.{StandsAsIn}
 use Rattle.records.proofs.ContentLaws.{rewriting_applied}
 use Rattle.records.proofs.KindLaws.{held_file}
+use Rattle.model.proofs.MarkLemmas.{swept-marked}
 use Rattle.model.proofs.ObjectLaws.{node_here, node_other}
 
 -- ---- nothing is to be swept
@@ -77,7 +81,7 @@ module _ (v : Volume) (table : ℕ → Option Description) (n : ℕ) (f : List �
 
 -- ---- the record and the tree
 
-takes_free : (v : Volume) (n : ℕ) (rewrite : Rewrite) → TakesFreeNumber v (rewriting n rewrite)
+takes_free : (v : Volume) (n : ℕ) (rewrite : Rewrite) → TakesFree v (rewriting n rewrite)
 takes_free v n (Write offset bytes) = tt
 takes_free v n (Truncate size) = tt
 takes_free v n (Set mode size) = tt
@@ -87,61 +91,78 @@ abbrev pub with_mode_given : Option ℕ → ℕ → Tree → Tree
 with_mode_given None n t = t
 with_mode_given (Some mode) n t = with_mode n mode t
 
-tree_after : (n : ℕ) (rewrite : Rewrite) (old new : Tree) → ChangesTree (rewriting n rewrite) old new → new ≡ with_mode_given (mode_after rewrite) n (with_bytes n (bytes_after rewrite (contents old n)) old)
-tree_after n (Write offset bytes) old new is = is
-tree_after n (Truncate size) old new is = is
-tree_after n (Set mode size) old new is = is
+-- the tree with these bytes, and with a mode, where it is given
+abbrev rewritten_tree : ℕ → Rewrite → Tree → Tree
+rewritten_tree n rewrite t = with_mode_given (mode_after rewrite) n (with_bytes n (bytes_after rewrite (contents t n)) t)
 
-module _ (limits : Limits) (v : Volume) (table : ℕ → Option Description) (volume : IsVolume limits v) (mounted : IsMounted v table) (law : RecordsChangeTrees) (n : ℕ) where
+tree_after : (time : Option Time) (n : ℕ) (rewrite : Rewrite) (old new : Tree) → ChangesTree (stamped time (rewriting n rewrite)) old new → new ≡ marked time (touches_object Data n) (rewritten_tree n rewrite old)
+tree_after time n (Write offset bytes) old new is = is
+tree_after time n (Truncate size) old new is = is
+tree_after time n (Set mode size) old new is = is
+
+module _ (limits : Limits) (v : Volume) (table : ℕ → Option Description) (volume : IsVolume limits v) (mounted : IsMounted v table) (law : RecordsChangeTrees) (time : Option Time) (n : ℕ) where
   abbrev t : Tree
   t = tree_of v table
 
-  -- the record leads to the tree with these bytes
-  pub rewritten : (rewrite : Rewrite) → Applies limits v (rewriting n rewrite)
-      → GoesOver limits v table (rewriting n rewrite) × (tree_of (applied (rewriting n rewrite) v) table ≡ with_mode_given (mode_after rewrite) n (with_bytes n (bytes_after rewrite (contents t n)) t))
-  rewritten rewrite can = ((can, told.0), tree_after n rewrite t (tree_of (applied (rewriting n rewrite) v) table) told.1)
-    where
-      whole : swept table (applied (rewriting n rewrite) v) ≡ applied (rewriting n rewrite) v
-      whole = subst (λ (w : Volume). swept table w ≡ w) (sym (rewriting_applied n rewrite v)) (bytes_unswept v table n (bytes_after rewrite) (mode_after rewrite) mounted.is_swept)
+  module _ (rewrite : Rewrite) where
+    abbrev change : Change
+    change = stamped time (rewriting n rewrite)
 
-      told : IsMounted (applied (rewriting n rewrite) v) table × ChangesTree (rewriting n rewrite) t (tree_of (applied (rewriting n rewrite) v) table)
-      told = subst (λ (w : Volume). IsMounted w table × ChangesTree (rewriting n rewrite) t (tree_of w table)) whole (law limits v table (rewriting n rewrite) volume mounted can (takes_free v n rewrite))
+    abbrev touches : Touches
+    touches = touches_of (rewriting n rewrite) v
+
+    abbrev w : Volume
+    w = applied change v
+
+    edited_whole : swept table (edited (rewriting n rewrite) v) ≡ edited (rewriting n rewrite) v
+    edited_whole = subst (λ (w : Volume). swept table w ≡ w) (sym (rewriting_applied n rewrite v)) (bytes_unswept v table n (bytes_after rewrite) (mode_after rewrite) mounted.is_swept)
+
+    whole : swept table w ≡ w
+    whole = swept-marked time touches (edited (rewriting n rewrite) v) table ∙ ap (marked_nodes time touches) edited_whole
+
+    told : Applies limits v change → IsMounted w table × ChangesTree change t (tree_of w table)
+    told can = subst (λ (w : Volume). IsMounted w table × ChangesTree change t (tree_of w table)) whole (law limits v table change volume mounted can (takes_free v n rewrite))
+
+    -- the record leads to the tree with these bytes
+    pub rewritten : Applies limits v change → GoesOver limits v table change × (tree_of w table ≡ marked time (touches_object Data n) (rewritten_tree n rewrite t))
+    rewritten can = ((can, (told can).0), tree_after time n rewrite t (tree_of w table) (told can).1)
 
 -- ---- writing
 
-module _ (limits : Limits) (t : Tree) (n offset : ℕ) (given : List ℕ) (also : Tree → Tree) where
-  pub puts_nothing : is_empty given ≡ true → puts limits t n offset given also (Wrote 0) t nothing
+module _ (limits : Limits) (time : Option Time) (t : Tree) (n offset : ℕ) (given : List ℕ) (also : Tree → Tree) where
+  pub puts_nothing : is_empty given ≡ true → puts limits time t n offset given also (Wrote 0) t nothing
   puts_nothing none = rw none (refl, refl, refl)
 
-  pub puts_too_much : is_empty given ≡ false → nat_lt limits.file_bytes (offset + length given) ≡ true → puts limits t n offset given also (Refused EFBIG) t nothing
+  pub puts_too_much : is_empty given ≡ false → nat_lt limits.file_bytes (offset + length given) ≡ true → puts limits time t n offset given also (Refused EFBIG) t nothing
   puts_too_much some past = rw some (rw past (refl, refl, refl))
 
-  pub puts_all : (new : Tree) → is_empty given ≡ false → nat_lt limits.file_bytes (offset + length given) ≡ false → new ≡ with_bytes n (written offset given (contents t n)) t
-      → puts limits t n offset given also (Wrote (length given)) (also new) (logs (puts_bytes (length (contents t n)) offset (length given)))
+  pub puts_all : (new : Tree) → is_empty given ≡ false → nat_lt limits.file_bytes (offset + length given) ≡ false → new ≡ marked time (touches_object Data n) (with_bytes n (written offset given (contents t n)) t)
+      → puts limits time t n offset given also (Wrote (length given)) (also new) (logs (puts_bytes (length (contents t n)) offset (length given)))
   puts_all new some within is = rw some (rw within (refl, ap also is, refl))
 
 -- ---- a new size
 
-pub truncates_nothing : (t : Tree) (n size : ℕ) → (size == length (contents t n)) ≡ true → truncates_file t n size Done t nothing
-truncates_nothing t n size same = (
-  refl,
-  sym (cond-true (size == length (contents t n)) t _ same),
-  sym (cond-true (size == length (contents t n)) nothing _ same),
-)
+module _ (time : Option Time) (t : Tree) (n size : ℕ) where
+  pub truncates_nothing : is_idle_size time n size t ≡ true → truncates_file time t n size Done t nothing
+  truncates_nothing same = (
+    refl,
+    sym (cond-true (is_idle_size time n size t) t _ same),
+    sym (cond-true (is_idle_size time n size t) nothing _ same),
+  )
 
-pub truncates_all : (t : Tree) (n size : ℕ) (new : Tree) → (size == length (contents t n)) ≡ false → new ≡ with_bytes n (bytes_after (Truncate size) (contents t n)) t
-    → truncates_file t n size Done new (logs (changes_size (length (contents t n)) size))
-truncates_all t n size new other is = (
-  refl,
-  is ∙ sym (cond-false (size == length (contents t n)) t _ other),
-  sym (cond-false (size == length (contents t n)) nothing _ other),
-)
+  pub truncates_all : (new : Tree) → is_idle_size time n size t ≡ false → new ≡ marked time (touches_object Data n) (with_bytes n (bytes_after (Truncate size) (contents t n)) t)
+      → truncates_file time t n size Done new (logs (changes_size (length (contents t n)) size))
+  truncates_all new other is = (
+    refl,
+    is ∙ sym (cond-false (is_idle_size time n size t) t _ other),
+    sym (cond-false (is_idle_size time n size t) nothing _ other),
+  )
 
--- both
+  -- both
 
-pub sets_all : (t : Tree) (n mode size : ℕ) (new : Tree) → (size == length (contents t n)) ≡ false → new ≡ with_mode n mode (with_bytes n (bytes_after (Set mode size) (contents t n)) t)
-    → sets_both t n mode size Done new (logs (changes_size (length (contents t n)) size))
-sets_all t n mode size new other is = rw other (refl, is, refl)
+  pub sets_all : (mode : ℕ) (new : Tree) → is_idle_size time n size t ≡ false → new ≡ marked time (touches_object Data n) (with_mode n mode (with_bytes n (bytes_after (Set mode size) (contents t n)) t))
+      → sets_both time t n mode size Done new (logs (changes_size (length (contents t n)) size))
+  sets_all mode new other is = rw other (refl, is, refl)
 
 -- ---- tests
 
@@ -153,9 +174,6 @@ some_bytes xs some = grind (arith, nat_tests)
 
 pub past_limit : (m n : ℕ) → m < n → nat_lt m n ≡ true
 past_limit m n lt = grind (arith, nat_tests)
-
-pub other_size : (m n : ℕ) → (m ≡ n → ⊥) → (m == n) ≡ false
-other_size m n ne = grind (arith, nat_tests)
 
 -- a file in memory has as many bytes as in the volume
 pub file_size : (detail : Detail) (k : Kind) (inodes : ℕ) (c : Content) (found : Option Node) → StandsAsIn detail k inodes c found → IsTrue (is_file_node found) → c.size ≡ length (unwrap_or (bytes_of_node found) [])

@@ -24,7 +24,7 @@ use Rattle.inofile.specs.declared.inode_file.ObjectSlot.{ObjectSlot}
 use Rattle.inofile.specs.declared.inode_file.ObjectSlot.TheVariants.{Changed}
 use Rattle.inofile.proofs.RoomLaws.{changed_room, gone_room, known_room, moved_once, unnamed_room}
 use Rattle.records.specs.Entering.{EditsIn, with_node_names}
-use Rattle.records.specs.Prepared.{AreBeside}
+use Rattle.records.specs.Plans.{AreBeside}
 use Rattle.records.specs.Room.{CountsObject, RaisesFile, SomeRoom, StoresIn, UpdateRoom}
 use Rattle.records.specs.Steps.{Commits, with_given_mode, with_node_links}
 use Rattle.records.specs.declared.steps.ObjectUpdate.{ObjectUpdate}
@@ -48,7 +48,7 @@ set_room detail disk inodes settled slot base found to was (Some new) k is room 
 
 module _ (detail : Detail) (disk : ℕ → List ℕ) (inodes : ℕ) (settled : Inode) (slot : Option ObjectSlot) (base : Option Node) where
   -- its file needs more: it has a name if it had one, and else it may lose it
-  more : (old new : Node) (o : Object) (after : Option Object) (k : ℕ) → file_room o.file ≤ slot_room slot → RaisesFile (Some o) after k → orphan_room (Some new) ≤ orphan_room (Some old)
+  pub more : (old new : Node) (o : Object) (after : Option Object) (k : ℕ) → file_room o.file ≤ slot_room slot → RaisesFile (Some o) after k → orphan_room (Some new) ≤ orphan_room (Some old)
       → room_of (Some (Changed after)) base (Some new) ≤ room_of slot base (Some old) + (k + 2)
   more old new o after k had raises names =
       let p = raises o refl in

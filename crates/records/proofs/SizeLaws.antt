@@ -1,11 +1,9 @@
 -- How many bytes an object in memory has.
 use Rattle.std.proofs.Common.{◌≡◌, ◌+◌, ◌≤◌, ℕ, List, [], Bool, true, false, length, Option, Some, None, IfSome, IsTrue, refl, ap, sym, ◌∙◌, arith}
 use Rattle.std.specs.Prelude.{unwrap_or, max, nat_lt, if◌then◌else◌}
-use Rattle.layout.specs.StateLimits.{limits_of}
 use Rattle.layout.specs.declared.inode.Inode.{Inode}
 use Rattle.layout.specs.declared.kind.Kind.TheVariants as kinds
 use Rattle.layout.specs.declared.TheConstants.{SINGLE_BYTES}
-use Rattle.layout.specs.Limits.{Sizes}
 use Rattle.model.specs.Room.{cost, puts_bytes}
 use Rattle.model.specs.Volumes.{Node, directory_node, file_node, link_node, bytes_of_node, is_file_node}
 use Rattle.images.specs.Soundness.{Detail}
@@ -17,6 +15,7 @@ use Rattle.inofile.specs.Settled.{content_of_object}
 use Rattle.inofile.specs.Volumes.{SlotStandsFor}
 use Rattle.inofile.specs.declared.inode_file.ObjectSlot.{ObjectSlot}
 use Rattle.inofile.specs.declared.inode_file.ObjectSlot.TheVariants.{AsSettled, Loaded, Changed}
+use Rattle.records.specs.Room.{step_costs}
 use Rattle.records.proofs.KindLaws.{is_kind, not_file, sized_file}
 
 no_bytes : (o : Option Node) → is_file_node o ≡ false → 0 ≡ length (unwrap_or (bytes_of_node o) [])
@@ -44,9 +43,9 @@ module _ (detail : Detail) (disk : ℕ → List ℕ) (inodes : ℕ) (settled : I
   loaded_bytes (Some (Changed None)) stands file = tt
   loaded_bytes (Some (Changed (Some o))) stands file = file_bytes o stands (is_kind detail o.status.kind inodes (content_of_object disk o) found stands.stands file)
 
--- what a write may store of its file, and two for the inode, is within its cost
-pub write_costs : (s : Sizes) (size offset count : ℕ) → write_room size offset count + 2 ≤ cost (limits_of s).costs (puts_bytes size offset count)
-write_costs s size offset count = let more = beside_it (nat_lt SINGLE_BYTES (max size (offset + count))) in omega (arith, more)
+-- what a write may store of its file, and two for the inode, is within what its steps cost
+pub write_costs : (size offset count : ℕ) → write_room size offset count + 2 ≤ cost step_costs (puts_bytes size offset count)
+write_costs size offset count = let more = beside_it (nat_lt SINGLE_BYTES (max size (offset + count))) in omega (arith, more)
   where
     beside_it : (past : Bool) → (if past then 6 else 3) + 2 ≤ (if past then 8 else 6)
     beside_it true = omega arith

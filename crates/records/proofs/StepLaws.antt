@@ -25,7 +25,7 @@ use Rattle.inofile.specs.Volumes.{IsVolumeIn}
 use Rattle.inofile.specs.declared.inode_file.InodeFile.{InodeFile}
 use Rattle.records.specs.Contents.{FitsFile}
 use Rattle.records.specs.Entering.{FitsObject}
-use Rattle.records.specs.Prepared.{AreBeside, IsApartFrom}
+use Rattle.records.specs.Plans.{AreBeside, IsApartFrom}
 use Rattle.records.specs.Steps.{Commits, FitsUpdate, IsApart, Steps, StepsSome, TakesSome, Updates, with_node_links}
 use Rattle.records.specs.declared.steps.Update.{Update}
 use Rattle.records.specs.declared.steps.Update.TheVariants as updates

@@ -4,18 +4,18 @@ use Rattle.std.specs.Option.{option_map}
 use Rattle.std.proofs.Math.Path.{fun_ext}
 use Rattle.std.proofs.lemmas.Bool.{cases_eq}
 use Rattle.layout.specs.declared.inode.Inode.{Inode}
-use Rattle.model.specs.Records.{Change, applied}
+use Rattle.model.specs.Records.{Edit, edited}
 use Rattle.model.specs.Trees.{Description}
 use Rattle.model.specs.declared.limits.TheConstants.{OPEN_FILES}
 use Rattle.model.specs.Volumes.{Node, directory_node, file_node, link_node, Volume, IsMounted, is_orphan, is_open, swept, swept_node, with_node}
 use Rattle.model.proofs.RecordLemmas.{swept_twice}
 use Rattle.model.proofs.SweepLemmas.{stays_open}
 use Rattle.inofile.specs.declared.inode_file.InodeFile.{InodeFile}
-use Rattle.records.specs.Prepared.{Does}
+use Rattle.records.specs.Plans.{DoesEdit}
 use Rattle.images.specs.Soundness.{by_bytes}
 use Rattle.records.specs.Steps.{IsAtHand, IsBeside, IsSomeAtHand, StepsSome}
 use Rattle.records.specs.Sweeping.{without_file}
-use Rattle.records.specs.declared.prepared.Prepared.{Prepared}
+use Rattle.records.specs.declared.plans.Plan.{Plan}
 use Rattle.records.specs.declared.steps.ObjectUpdate.{ObjectUpdate}
 use Rattle.model.proofs.ObjectLaws.{node_here, node_other}
 
@@ -121,9 +121,9 @@ some_rest : (disk : ℕ → List ℕ) (settled : ℕ → Inode) (s : InodeFile) 
 some_rest disk settled s v w None k steps beside = ap (λ (x : Volume). x k) steps
 some_rest disk settled s v w (Some step) k steps beside = ap (λ (x : Volume). x k) steps.2 ∙ node_other step.number k steps.0 v (λ e. beside (sym e))
 
-module _ (disk : ℕ → List ℕ) (settled : ℕ → Inode) (s : InodeFile) (v : Volume) (p : Prepared) (change : Change) (does : Does disk settled s v p change) where
+module _ (disk : ℕ → List ℕ) (settled : ℕ → Inode) (s : InodeFile) (v : Volume) (p : Plan) (edit : Edit) (does : DoesEdit disk settled s v p edit) where
   abbrev w : Volume
-  w = applied change v
+  w = edited edit v
 
   -- so does what no step is on
   pub rest_stays : (k : ℕ) → IsBeside k (Some p.first) → IsBeside k p.next → IsBeside k p.last → w k ≡ v k

@@ -25,7 +25,7 @@ use Rattle.records.specs.declared.contents.Rewrite.{Rewrite}
 use Rattle.records.specs.declared.contents.Rewrite.TheVariants.{Write, Truncate, Set}
 
 -- the record of such a change of the file with this number
-abbrev pub rewriting : ℕ → Rewrite → records.Change
+abbrev pub rewriting : ℕ → Rewrite → records.Edit
 rewriting number (Write offset bytes) = records.write number offset bytes.now
 rewriting number (Truncate size) = records.truncate number size
 rewriting number (Set mode size) = records.set_file number mode size

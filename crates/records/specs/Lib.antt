@@ -3,11 +3,14 @@ pub mod Entering
 pub mod Contents
 pub mod Room
 pub mod Steps
-pub mod Prepared
+pub mod Plans
 pub mod Shown
 pub mod Looking
 pub mod Failures
 pub mod Obstacles
+pub mod Planning
+pub mod Marks
+pub mod Prepared
 pub mod Preparing
 pub mod Naming
 pub mod Reading

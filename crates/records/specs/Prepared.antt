@@ -1,71 +1,47 @@
 -- Prepared changes of the image in memory.
-use Rattle.std.specs.Prelude.{ℕ, ◌+◌, ◌≤◌, List, Option, Some, None}
+use Rattle.std.specs.Prelude.{ℕ, ◌≡◌, List, IfOk, IfSome, Result}
 use Rattle.layout.specs.StateLimits.{limits_of}
 use Rattle.layout.specs.declared.inode.Inode.{Inode}
-use Rattle.model.specs.Records.{Change, applied, set_file, truncate, work_of, write}
-use Rattle.model.specs.Room.{cost}
+use Rattle.model.specs.Attributes.{KeepsTime}
+use Rattle.model.specs.Records.{Change, touches_of}
 use Rattle.model.specs.Volumes.{Volume}
+use Rattle.buffers.specs.declared.blocks.Blocks.{Ghosts}
+use Rattle.buffers.specs.declared.error.BlockError.{BlockError}
 use Rattle.images.specs.Soundness.{Detail, by_bytes}
-use Rattle.inofile.specs.Inodes.{IsKnown}
 use Rattle.inofile.specs.declared.inode_file.InodeFile.{InodeFile}
-use Rattle.records.specs.Room.{SomeRoom, StepRoom}
-use Rattle.records.specs.Steps.{IsAtHand, IsBeside, IsSomeApart, IsSomeAtHand, Steps, StepsSome, TakesSome, TakesUpdate}
+use Rattle.records.specs.Marks.{AreMarkedAtHand, BringsBeside, touches_in}
+use Rattle.records.specs.Plans.{DoesEditIn, IsPlanAtHand, IsPlanReady, KnowsEdited}
+use Rattle.records.specs.declared.marks.Marks.{Marks}
+use Rattle.records.specs.declared.plans.Plan.{Plan}
 use Rattle.records.specs.declared.prepared.Prepared.{Prepared}
-use Rattle.records.specs.declared.steps.ObjectUpdate.{ObjectUpdate}
 
--- a step, if there is one, doesn't depend on what another one, if there is one, does to memory
-abbrev pub IsApartFrom : Option ObjectUpdate → Option ObjectUpdate → Type 0
-IsApartFrom None step = Unit {0}
-IsApartFrom (Some other) step = IsSomeApart other.number step
-
--- a step, if there is one, isn't of the same number as another one, if there is one
-abbrev pub AreBeside : Option ObjectUpdate → Option ObjectUpdate → Type 0
-AreBeside None step = Unit {0}
-AreBeside (Some other) step = IsBeside other.number step
-
--- memory has room for all that a prepared change sets
+-- memory has room for all that a prepared change sets, and the file system keeps its time
 pub record IsReady (s : InodeFile) (p : Prepared) : Type 0 where
-  pub first : TakesUpdate s p.first.number p.first.update
-  pub next : TakesSome s p.next
-  pub last : TakesSome s p.last
-  pub next_apart : IsSomeApart p.first.number p.next
-  pub last_apart : IsSomeApart p.first.number p.last
-  pub apart : IsApartFrom p.next p.last
+  pub plan : IsPlanReady s p.plan
+  pub marks : AreMarkedAtHand s p.marks
+  pub time : KeepsTime (limits_of s.geometry).has_attributes p.marks.time
 
 -- what a prepared change sets is in memory, with room for a change of it
 pub record AreAtHand (s : InodeFile) (p : Prepared) : Type 0 where
-  pub first : IsAtHand s p.first.number
-  pub next : IsSomeAtHand s p.next
-  pub last : IsSomeAtHand s p.last
+  pub plan : IsPlanAtHand s p.plan
+  pub marks : AreMarkedAtHand s p.marks
 
 -- the file that a record writes to or gives a size is in memory
 abbrev pub KnowsFile : InodeFile → Change → Type 0
-KnowsFile s (write number offset bytes) = IsKnown s number
-KnowsFile s (truncate number size) = IsKnown s number
-KnowsFile s (set_file number mode size) = IsKnown s number
-KnowsFile s change = Unit {0}
+KnowsFile s change = KnowsEdited s change.edit
 
 -- Put in force on this memory, which stands for this volume in so much detail, a prepared change
--- does to it what the record says: each of its steps is on an object of its own. Each raises by so
--- much at the most what a consistency point may store, and all of them by no more than the record
--- costs.
+-- does to it what the record says, and touches at its time what the record touches.
 pub record DoesIn (detail : Detail) (disk : ℕ → List ℕ) (settled : ℕ → Inode) (s : InodeFile) (v : Volume) (p : Prepared) (change : Change) : Type 0 where
-  pub between : Volume
-  pub second : Volume
-  pub first : Steps detail disk settled s v p.first between
-  pub next : StepsSome detail disk settled s between p.next second
-  pub last : StepsSome detail disk settled s second p.last (applied change v)
-  pub next_beside : IsBeside p.first.number p.next
-  pub last_beside : IsBeside p.first.number p.last
-  pub beside : AreBeside p.next p.last
-  pub firsts : ℕ
-  pub nexts : ℕ
-  pub lasts : ℕ
-  pub first_room : StepRoom s p.first firsts
-  pub next_room : SomeRoom s p.next nexts
-  pub last_room : SomeRoom s p.last lasts
-  pub within : firsts + nexts + lasts ≤ cost (limits_of s.geometry).costs (work_of v change)
-  pub knows : KnowsFile s change
+  pub edit : DoesEditIn detail disk settled s v p.plan change.edit
+  pub time : p.marks.time ≡ change.time
+  pub touches : IfSome change.time (λ time. touches_in p.marks ≡ touches_of change.edit v)
 
 abbrev pub Does : (ℕ → List ℕ) → (ℕ → Inode) → InodeFile → Volume → Prepared → Change → Type 0
 Does = DoesIn by_bytes
+
+-- A plan is completed by what is touched beside it, which comes into memory: all that memory knew it
+-- has as it was.
+pub record Completes {B : Type 0} (G : Ghosts B) (blocks after : B) (s t : InodeFile) (plan : Plan) (marks : Marks) (result : Result Prepared BlockError) : Type 0 where
+  pub brings : BringsBeside G blocks after s t (λ u. AreMarkedAtHand u marks) result
+  pub is : IfOk result (λ p. p ≡ record { plan = plan; marks = marks })

@@ -1,42 +1,28 @@
 -- Functions that prepare a record.
-use Rattle.std.specs.Prelude.{ℕ, ◌≡◌, ◌⊎◌, ◌<◌, ◌≤◌, IsErrOf, IsSome, IsTrue, List, Result, IfErr, IfOk}
+use Rattle.std.specs.Prelude.{ℕ, IsErrOf, IsTrue, List, Result, IfErr, IfOk}
 use Rattle.model.specs.declared.limits.Limits.{Limits}
 use Rattle.layout.specs.StateLimits.{limits_of}
 use Rattle.layout.specs.declared.inode.Inode.{Inode}
 use Rattle.model.specs.Records.{Applies, Change}
-use Rattle.model.specs.Volumes.{Volume, IsGraph, IsVolume}
-use Rattle.model.specs.declared.limits.TheConstants.{FIRST_NUMBER, ROOT_NUMBER}
+use Rattle.model.specs.Volumes.{Volume}
 use Rattle.buffers.specs.declared.blocks.Blocks.{Ghosts}
 use Rattle.buffers.specs.Errors.{IsFault}
 use Rattle.buffers.specs.declared.error.BlockError.TheVariants.{Damaged}
-use Rattle.images.specs.Soundness.{Detail, by_bytes, by_sizes}
+use Rattle.images.specs.Soundness.{Detail}
+use Rattle.images.specs.Replaying.{LeavesPlace, ReadsIn}
 use Rattle.inofile.specs.declared.inode_file.InodeFile.{InodeFile}
 use Rattle.paths.specs.Standing.{Looks, OnVolumesIn, StandsIn}
 use Rattle.records.specs.Failures.{read_outcome}
 use Rattle.records.specs.Obstacles.{IsObstacle, tells_obstacle}
-use Rattle.images.specs.Replaying.{LeavesPlace, ReadsIn}
+pub use Rattle.records.specs.Planning.{HasGraph, IsKnownVolume, Premise}
+use Rattle.records.specs.Planning.{IsVolumeForEdit}
 use Rattle.records.specs.Prepared.{DoesIn, IsReady}
 use Rattle.records.specs.declared.failure.Failure.{Failure}
 use Rattle.records.specs.declared.prepared.Prepared.{Prepared}
 
--- what is known of a volume that memory stands for in so much detail
-abbrev pub Premise : Type 1
-Premise = Detail → (ℕ → List ℕ) → (ℕ → Inode) → Volume → Type 0
-
--- what a volume has, but for limits: these aren't known where files are known by their sizes alone
-pub record HasGraph (inodes : ℕ) (v : Volume) : Type 0 where
-  pub graph : IsGraph v
-  pub numbers : (n : ℕ) → IsSome (v n) → (n ≡ ROOT_NUMBER) ⊎ ((FIRST_NUMBER ≤ n) × (n < inodes))
-
--- a volume that memory stands for in so much detail
-abbrev pub IsKnownVolume : Detail → Limits → Volume → Type 0
-IsKnownVolume by_bytes limits v = IsVolume limits v
-IsKnownVolume by_sizes limits v = HasGraph limits.inodes v
-
--- the same where a directory has place for what a record moves there
+-- a volume where a directory has place for what a record moves there
 abbrev pub IsVolumeFor : Detail → Limits → Change → Volume → Type 0
-IsVolumeFor by_bytes limits change v = IsVolume limits v
-IsVolumeFor by_sizes limits change v = HasGraph limits.inodes v × LeavesPlace limits v change
+IsVolumeFor detail limits change v = IsVolumeForEdit detail limits change.edit v
 
 -- A record is prepared, and does what it says to each volume of which `Over` is known; or the first
 -- obstacle is told. That it applies, within the limits, or what is told, is true where `Sure` is
@@ -50,12 +36,12 @@ pub record DecidesOn {B : Type 0} (Over Sure : Premise) (G : Ghosts B) (blocks a
   pub applies : {detail : Detail} (disk : ℕ → List ℕ) (settled : ℕ → Inode) (v : Volume) → Sure detail disk settled v
       → IfOk result (λ _. Applies (limits_of s.geometry) v change)
   pub place : {detail : Detail} (disk : ℕ → List ℕ) (settled : ℕ → Inode) (v : Volume) → Sure detail disk settled v
-      → IfOk result (λ _. LeavesPlace (limits_of s.geometry) v change)
+      → IfOk result (λ _. LeavesPlace (limits_of s.geometry) v change.edit)
   pub refused : {detail : Detail} (disk : ℕ → List ℕ) (settled : ℕ → Inode) (v : Volume) → Sure detail disk settled v
       → IsVolumeFor detail (limits_of s.geometry) change v → IfOk (read_outcome result) (λ r. IfErr r (IsObstacle (limits_of s.geometry) v change))
   pub reads : {detail : Detail} (disk : ℕ → List ℕ) (settled : ℕ → Inode) (v : Volume) → Sure detail disk settled v
-      → IfOk result (λ _. ReadsIn detail v change)
-  pub damaged : {detail : Detail} → OnVolumesIn detail G blocks s (λ disk settled v. ReadsIn detail v change → IsErrOf (read_outcome result) Damaged → ⊥)
+      → IfOk result (λ _. ReadsIn detail v change.edit)
+  pub damaged : {detail : Detail} → OnVolumesIn detail G blocks s (λ disk settled v. ReadsIn detail v change.edit → IsErrOf (read_outcome result) Damaged → ⊥)
 
 -- the same of each volume that memory stands for
 abbrev pub DecidesRecord : {B : Type 0} → Ghosts B → B → B → InodeFile → InodeFile → Change → Result Prepared Failure → Type 0

@@ -1,5 +1,8 @@
 -- By how much updates and steps may raise what a consistency point may store.
 use Rattle.std.specs.Prelude.{ℕ, ◌≡◌, ◌+◌, ◌≤◌, Option, Some, None, IfSome}
+use Rattle.layout.specs.StateLimits.{costs_of}
+use Rattle.layout.specs.declared.trees.Layout.TheVariants.{Plain}
+use Rattle.model.specs.declared.costs.Costs.{Costs}
 use Rattle.dirs.specs.Room.{piece_count}
 use Rattle.inode.specs.Room.{StoresMore, edit_room, file_room}
 use Rattle.inode.specs.declared.file_update.FileUpdate.{FileUpdate}
@@ -47,3 +50,8 @@ SomeRoom s (Some step) k = StepRoom s step k
 -- what memory has of a number counts the object that it has there
 abbrev pub CountsObject : Option Object → Option ObjectSlot → Type 0
 CountsObject o slot = IfSome o (λ x. file_room x.file ≤ slot_room slot)
+
+-- what the steps of a record's edit cost, without the objects that it touches beside them: what the
+-- record does on a file system that keeps no times, where a removal asks for more than its steps do
+abbrev pub step_costs : Costs
+step_costs = record (costs_of Plain 0) { removes_name = 13 }

@@ -1,4 +1,4 @@
--- Steps of a prepared change: each changes one object in memory.
+-- Steps of a plan: each changes one object in memory.
 use Rattle.std.specs.Prelude.{ℕ, ◌≡◌, ◌≢◌, ◌+◌, ◌≤◌, ◌<◌, ◌||◌, IsTrue, List, Option, Some, None}
 use Rattle.layout.specs.declared.inode.Inode.{Inode}
 use Rattle.layout.specs.DirectoryNames.{NameMap}

@@ -12,7 +12,7 @@ ghost use Rattle.paths.specs.Numbers.{AreInodeNumbers, IsInodeNumber};
 ghost use Rattle.paths.specs.Standing.{Looks};
 ghost use Rattle.records.specs.Below.{IsChild, IsMarkedNumber, MarksMore};
 ghost use Rattle.records.specs.Looking.{Finds};
-ghost use Rattle.records.specs.Preparing.{IsKnownVolume};
+ghost use Rattle.records.specs.Planning.{IsKnownVolume};
 ghost use Rattle.records.specs.Shown.{NeverDamagedIn, OnVolumesIn};
 
 use crate::loading::{is_number, is_same};

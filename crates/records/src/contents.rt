@@ -3,8 +3,9 @@
 ghost use Rattle.std.specs.Prelude.{◌≡◌, ◌≤◌, ◌+◌, ◌↔◌, ℕ, List, Option, Some, IsTrue, IfErr, IfOk, IfSome, IsErrOf, OnOk, is_some, length};
 ghost use Rattle.layout.specs.StateLimits.{limits_of};
 ghost use Rattle.layout.specs.declared.inode.Inode.{Inode};
+ghost use Rattle.model.specs.Attributes.{KeepsTime};
 ghost use Rattle.model.specs.Edits.{resized, written};
-ghost use Rattle.model.specs.Records.{with_file_bytes};
+ghost use Rattle.model.specs.Records.{stamped, with_file_bytes};
 ghost use Rattle.model.specs.Volumes.{Node, is_file_node};
 ghost use Rattle.model.specs.declared.limits.TheConstants.{TRANSFER_BYTES};
 ghost use Rattle.buffers.specs.Reads.{ReadsBlocks};
@@ -21,19 +22,23 @@ ghost use Rattle.paths.specs.Numbers.{IsInodeNumber};
 ghost use Rattle.paths.specs.Standing.{Looks};
 ghost use Rattle.records.specs.Contents.{FitsFile, IsSoundIn, IsWholeIn, KeepsRecordBounds, KeepsRewriteBounds, LeavesPart, PlansFile, RewriteRoom, RewritesFile, RewritesIn, bytes_after, end_of, mode_after, rewrite_room, rewriting};
 ghost use Rattle.records.specs.Failures.{read_outcome};
+ghost use Rattle.records.specs.Planning.{DecidesEdit};
 ghost use Rattle.records.specs.Preparing.{DecidesRecord};
 ghost use Rattle.records.specs.Shown.{OnVolumesIn};
 ghost use Rattle.records.specs.Room.{RaisesFile, StoresIn};
 ghost use Rattle.records.specs.Steps.{TakesUpdate};
 
 use crate::loading::{is_number, load_to_change};
+use crate::marks::Marks;
+use crate::plans::Plan;
+use crate::prepared::with_marks;
 use crate::steps::{ObjectUpdate, Update};
 use crate::{Failure, Prepared};
 use buffers::{BlockError, Blocks};
 use inode::{ChangeError, File, FileUpdate, Object};
 use inofile::{InodeFile, objects_stand_in_their_grammar};
 use layout::{InodeNumber, Kind};
-use model::{Errno, Limits, Mode, TRANSFER_BYTES};
+use model::{Errno, Limits, Mode, TRANSFER_BYTES, Time, Touch};
 use std::alloc::Global;
 
 /// What becomes of a file's bytes.
@@ -65,14 +70,37 @@ pub(crate) fn prepare_bytes<B: Blocks>(
     alloc: Global,
     inodes: &mut InodeFile,
     blocks: &mut B,
+    time: Option<Time>,
     number: InodeNumber,
     rewrite: &Rewrite<'_>,
 ) -> Result<Prepared, Failure>
+    requires { KeepsTime (limits_of inodes.old.geometry).has_attributes time }
     ensures decides { DecidesRecord B.Blocks blocks.old blocks.new inodes.old inodes.new
+        (stamped time (rewriting number rewrite.now)) result }
+    ensures own { IfOk (read_outcome result) (λ r. IfErr r (λ e. e ≡ Errno.EFBIG)) }
+    ensures bounds { IfOk result
+        (λ _. KeepsRewriteBounds (limits_of inodes.old.geometry) rewrite.now) }
+{
+    let plan = plan_bytes(alloc, inodes, blocks, number, rewrite)?;
+    let marks = Marks::of_object(time, Touch::Data, number);
+    let prepared = with_marks(alloc, inodes, blocks, plan, marks)?;
+    Ok(prepared)
+}
+
+// What becomes of the file.
+fn plan_bytes<B: Blocks>(
+    alloc: Global,
+    inodes: &mut InodeFile,
+    blocks: &mut B,
+    number: InodeNumber,
+    rewrite: &Rewrite<'_>,
+) -> Result<Plan, Failure>
+    ensures decides { DecidesEdit B.Blocks blocks.old blocks.new inodes.old inodes.new
         (rewriting number rewrite.now) result }
     ensures own { IfOk (read_outcome result) (λ r. IfErr r (λ e. e ≡ Errno.EFBIG)) }
     ensures bounds { IfOk result
         (λ _. KeepsRewriteBounds (limits_of inodes.old.geometry) rewrite.now) }
+    ensures number { IfOk result (λ _. IsInodeNumber inodes.old.geometry.inodes number) }
 {
     if !keeps_bounds(inodes.limits(), rewrite) {
         return Err(Failure::Refused(Errno::EFBIG));
@@ -84,7 +112,7 @@ pub(crate) fn prepare_bytes<B: Blocks>(
     let Some(change) = planned else {
         return Err(Failure::Refused(Errno::EFBIG));
     };
-    Ok(Prepared {
+    Ok(Plan {
         first: ObjectUpdate {
             number,
             update: Update::Bytes(change, rewrite.mode()),

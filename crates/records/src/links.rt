@@ -1,24 +1,31 @@
 //! Records that give a file a name more.
 
-ghost use Rattle.std.specs.Prelude.{◌≡◌, ℕ, List, IfSome, IfNone, false};
+ghost use Rattle.std.specs.Prelude.{◌≡◌, ℕ, List, IfOk, IfSome, IfNone, false};
+ghost use Rattle.layout.specs.StateLimits.{limits_of};
 ghost use Rattle.layout.specs.declared.inode.Inode.{Inode};
-ghost use Rattle.model.specs.Records.{link};
+ghost use Rattle.model.specs.Attributes.{KeepsTime};
+ghost use Rattle.model.specs.Records.{link, stamped};
 ghost use Rattle.model.specs.Volumes.{Volume, is_file_node};
 ghost use Rattle.images.specs.Soundness.{Detail};
 ghost use Rattle.inofile.specs.Inodes.{IsKnown};
 ghost use Rattle.inofile.specs.Volumes.{IsVolumeIn};
+ghost use Rattle.paths.specs.Numbers.{IsInodeNumber};
+ghost use Rattle.records.specs.Planning.{DecidesEdit};
 ghost use Rattle.records.specs.Preparing.{DecidesRecord};
 ghost use Rattle.records.specs.Steps.{IsFileWithLinks};
 
 use crate::directory_names::edit_parent;
 use crate::loading::{is_number, load_to_change};
+use crate::marks::Marks;
 use crate::naming::NameEdit;
+use crate::plans::Plan;
+use crate::prepared::with_marks;
 use crate::steps::{ObjectUpdate, Update};
 use crate::{Failure, Prepared};
 use buffers::Blocks;
 use inofile::InodeFile;
 use layout::{Entry, InodeNumber, Kind, is_name};
-use model::Errno;
+use model::{Errno, Time, Touch};
 use std::alloc::Global;
 
 /// Prepares that a file gets a name more; or tells the first obstacle: ENAMETOOLONG where the name
@@ -28,12 +35,34 @@ pub fn prepare_link<B: Blocks>(
     alloc: Global,
     inodes: &mut InodeFile,
     blocks: &mut B,
+    time: Option<Time>,
     number: InodeNumber,
     parent: InodeNumber,
     name: &[u8],
 ) -> Result<Prepared, Failure>
+    requires { KeepsTime (limits_of inodes.old.geometry).has_attributes time }
     ensures { DecidesRecord B.Blocks blocks.old blocks.new inodes.old inodes.new
+        (stamped time (link number parent name.now)) result }
+{
+    let plan = plan_link(alloc, inodes, blocks, number, parent, name)?;
+    let marks = Marks::of_entry(time, Touch::Status, Some(number), parent);
+    let prepared = with_marks(alloc, inodes, blocks, plan, marks)?;
+    Ok(prepared)
+}
+
+// What becomes of the objects.
+fn plan_link<B: Blocks>(
+    alloc: Global,
+    inodes: &mut InodeFile,
+    blocks: &mut B,
+    number: InodeNumber,
+    parent: InodeNumber,
+    name: &[u8],
+) -> Result<Plan, Failure>
+    ensures decides { DecidesEdit B.Blocks blocks.old blocks.new inodes.old inodes.new
         (link number parent name.now) result }
+    ensures numbers { IfOk result (λ _. IsInodeNumber inodes.old.geometry.inodes number
+        × IsInodeNumber inodes.old.geometry.inodes parent) }
 {
     if !is_name(name) {
         return Err(Failure::Refused(Errno::ENAMETOOLONG));
@@ -56,7 +85,7 @@ pub fn prepare_link<B: Blocks>(
     let Some(edit) = planned else {
         return Err(Failure::Refused(Errno::DIRFULL));
     };
-    Ok(Prepared {
+    Ok(Plan {
         first: ObjectUpdate {
             number: parent,
             update: Update::Names(edit),

@@ -7,7 +7,7 @@ ghost use Rattle.images.specs.Soundness.{Detail};
 ghost use Rattle.inofile.specs.Inodes.{IsKnown};
 ghost use Rattle.paths.specs.Numbers.{IsInodeNumber};
 ghost use Rattle.records.specs.Looking.{Brings};
-ghost use Rattle.records.specs.Preparing.{IsKnownVolume};
+ghost use Rattle.records.specs.Planning.{IsKnownVolume};
 ghost use Rattle.records.specs.Steps.{IsAtHand};
 
 use buffers::{BlockError, Blocks};

@@ -1,8 +1,11 @@
 //! Records that take a name away.
 
 ghost use Rattle.std.specs.Prelude.{◌≡◌, ◌↔◌, ℕ, List, Option, IfOk, IfSome, IsTrue};
+ghost use Rattle.std.specs.Option.{option_map};
+ghost use Rattle.layout.specs.StateLimits.{limits_of};
 ghost use Rattle.layout.specs.declared.inode.Inode.{Inode};
-ghost use Rattle.model.specs.Records.{IsEmpty, remove_name};
+ghost use Rattle.model.specs.Attributes.{KeepsTime};
+ghost use Rattle.model.specs.Records.{IsEmpty, remove_name, stamped};
 ghost use Rattle.model.specs.Volumes.{Volume, entries, with_name_less};
 ghost use Rattle.images.specs.Soundness.{Detail};
 ghost use Rattle.inode.specs.declared.object.Object.{Object};
@@ -11,19 +14,24 @@ ghost use Rattle.inofile.specs.Volumes.{IsVolumeIn};
 ghost use Rattle.paths.specs.Numbers.{IsInodeNumber};
 ghost use Rattle.records.specs.Looking.{Finds};
 ghost use Rattle.records.specs.Moving.{Releases};
+ghost use Rattle.records.specs.Planning.{DecidesEdit};
 ghost use Rattle.records.specs.Preparing.{DecidesRecord};
 ghost use Rattle.records.specs.Room.{UpdateRoom};
+ghost use Rattle.records.specs.Shown.{OnVolumesIn};
 ghost use Rattle.records.specs.Steps.{IsAlone, IsAtHand, Updates};
 
 use crate::directory_names::edit_parent;
 use crate::loading::{is_number, load_to_change};
+use crate::marks::Marks;
 use crate::naming::NameEdit;
+use crate::plans::{Plan, number_of};
+use crate::prepared::with_marks;
 use crate::steps::{ObjectUpdate, Update};
 use crate::{Failure, Prepared};
 use buffers::{BlockError, Blocks};
 use inofile::InodeFile;
 use layout::{InodeNumber, Kind};
-use model::Errno;
+use model::{Errno, Time, Touch};
 use std::alloc::Global;
 
 /// Prepares that a name is taken away, and with it what it named, but a file stays, with a name
@@ -33,11 +41,35 @@ pub fn prepare_remove_name<B: Blocks>(
     alloc: Global,
     inodes: &mut InodeFile,
     blocks: &mut B,
+    time: Option<Time>,
     parent: InodeNumber,
     name: &[u8],
 ) -> Result<Prepared, Failure>
+    requires { KeepsTime (limits_of inodes.old.geometry).has_attributes time }
     ensures { DecidesRecord B.Blocks blocks.old blocks.new inodes.old inodes.new
+        (stamped time (remove_name parent name.now)) result }
+{
+    let plan = plan_remove_name(alloc, inodes, blocks, parent, name)?;
+    let marks = Marks::of_entry(time, Touch::Status, number_of(&plan.next), parent);
+    let prepared = with_marks(alloc, inodes, blocks, plan, marks)?;
+    Ok(prepared)
+}
+
+// What becomes of the objects: the parent first, and then of what has the name.
+fn plan_remove_name<B: Blocks>(
+    alloc: Global,
+    inodes: &mut InodeFile,
+    blocks: &mut B,
+    parent: InodeNumber,
+    name: &[u8],
+) -> Result<Plan, Failure>
+    ensures decides { DecidesEdit B.Blocks blocks.old blocks.new inodes.old inodes.new
         (remove_name parent name.now) result }
+    ensures parent { IfOk result (λ _. IsInodeNumber inodes.old.geometry.inodes parent) }
+    ensures number { IfOk result (λ p. IfSome p.next
+        (λ step. IsInodeNumber inodes.old.geometry.inodes step.number)) }
+    ensures named { (detail : Detail) → OnVolumesIn detail B.Blocks blocks.old inodes.old (λ disk settled v.
+        IfOk result (λ p. option_map (λ step. step.number) p.next ≡ entries v parent name.now)) }
 {
     if !is_number(inodes, parent) {
         return Err(Failure::Refused(Errno::ENOENT));
@@ -54,7 +86,7 @@ pub fn prepare_remove_name<B: Blocks>(
     let Some(edit) = planned else {
         return Err(Failure::Refused(Errno::ENOENT));
     };
-    Ok(Prepared {
+    Ok(Plan {
         first: ObjectUpdate {
             number: parent,
             update: Update::Names(edit),

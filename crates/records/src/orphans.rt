@@ -2,10 +2,9 @@
 //! a change.
 
 ghost use Rattle.std.specs.Prelude.{◌≡◌, ◌+◌, ◌≤◌, ℕ, List, Option, None, IfSome, IsTrue, false};
-ghost use Rattle.std.specs.Option.{option_map};
 ghost use Rattle.layout.specs.StateLimits.{limits_of};
 ghost use Rattle.layout.specs.declared.inode.Inode.{Inode};
-ghost use Rattle.model.specs.Records.{Change, applied, work_of};
+ghost use Rattle.model.specs.Records.{Change, Edit, applied, edited, work_by, work_of};
 ghost use Rattle.model.specs.Room.{cost};
 ghost use Rattle.model.specs.Volumes.{Volume, IsMounted, is_file_node, is_orphan, swept, swept_node, with_node};
 ghost use Rattle.images.specs.Soundness.{Detail};
@@ -15,11 +14,15 @@ ghost use Rattle.inofile.specs.Volumes.{IsVolumeIn, IsVolumeOf};
 ghost use Rattle.descriptors.specs.Fits.{FitsVolume};
 ghost use Rattle.descriptors.specs.Tables.{KeepsRoom, table_of};
 ghost use Rattle.records.specs.Opened.{HasNumbers};
+ghost use Rattle.records.specs.Plans.{DoesEdit, IsPlanReady};
 ghost use Rattle.records.specs.Prepared.{Does, IsReady};
+ghost use Rattle.records.specs.Room.{step_costs};
 ghost use Rattle.records.specs.Steps.{IsAtHand};
 ghost use Rattle.records.specs.Sweeping.{OpensFiles, StandsNoMore, with_object_of, without_file};
 
-use crate::prepared::{Prepared, commit};
+use crate::marks::commit_marks;
+use crate::plans::{Plan, commit_plan, number_of};
+use crate::prepared::Prepared;
 use crate::steps::ObjectUpdate;
 use descriptors::Descriptors;
 use inofile::InodeFile;
@@ -51,10 +54,40 @@ pub fn commit_swept(inodes: &mut InodeFile, files: &mut Descriptors, prepared: P
         → IsMounted (swept (table_of files.old) (applied change v)) (table_of files.old)
         → FitsVolume files.new (swept (table_of files.old) (applied change v)) }
 {
-    let first = first_number(&prepared.first);
-    let next = number_of(&prepared.next);
-    let last = number_of(&prepared.last);
-    commit(inodes, prepared);
+    let Prepared { plan, marks } = prepared;
+    commit_plan_swept(inodes, files, plan);
+    commit_marks(inodes, marks);
+}
+
+// The same of what becomes of objects, before any of them is touched.
+fn commit_plan_swept(inodes: &mut InodeFile, files: &mut Descriptors, plan: Plan)
+    requires { IsPlanReady inodes.old plan }
+    ensures geometry { inodes.new.geometry ≡ inodes.old.geometry }
+    ensures stays { (n : ℕ) → IsKnown inodes.old n → IsKnown inodes.new n }
+    ensures keeps { (n : ℕ) → HasRoomFor inodes.old n → HasRoomFor inodes.new n }
+    ensures opened { table_of files.new ≡ table_of files.old }
+    ensures kept { KeepsRoom files.old files.new }
+    ensures numbers { (n : ℕ) → HasNumbers n files.old → HasNumbers n files.new }
+    ensures volume { (count : ℕ) (disk : ℕ → List ℕ) (settled : ℕ → Inode) (v : Volume)
+        (edit : Edit) → IsVolumeOf count disk settled inodes.old v
+        → DoesEdit disk settled inodes.old v plan edit → IsMounted v (table_of files.old)
+        → IsVolumeOf count disk settled inodes.new (swept (table_of files.old) (edited edit v)) }
+    ensures room { (base : Volume) (count : ℕ) (disk : ℕ → List ℕ) (settled : ℕ → Inode) (v : Volume)
+        (edit : Edit) → IsVolumeOf count disk settled inodes.old v
+        → DoesEdit disk settled inodes.old v plan edit → IsMounted v (table_of files.old)
+        → memory_room base inodes.new (swept (table_of files.old) (edited edit v))
+        ≤ memory_room base inodes.old v + cost step_costs (work_by v edit) }
+    ensures fits { (count : ℕ) (disk : ℕ → List ℕ) (settled : ℕ → Inode) (v : Volume)
+        (edit : Edit) → IsVolumeOf count disk settled inodes.old v
+        → DoesEdit disk settled inodes.old v plan edit → IsMounted v (table_of files.old)
+        → FitsVolume files.old v
+        → IsMounted (swept (table_of files.old) (edited edit v)) (table_of files.old)
+        → FitsVolume files.new (swept (table_of files.old) (edited edit v)) }
+{
+    let first = first_number(&plan.first);
+    let next = number_of(&plan.next);
+    let last = number_of(&plan.last);
+    commit_plan(inodes, plan);
     drop_or_note(inodes, files, Some(first));
     drop_or_note(inodes, files, next);
     drop_or_note(inodes, files, last);
@@ -65,16 +98,6 @@ fn first_number(step: &ObjectUpdate) -> InodeNumber
     ensures { result ≡ step.now.number }
 {
     step.number
-}
-
-// The same, if there is one.
-fn number_of(step: &Option<ObjectUpdate>) -> Option<InodeNumber>
-    ensures { result ≡ option_map (λ step. step.number) step.now }
-{
-    match step {
-        Some(step) => Some(step.number),
-        None => None,
-    }
 }
 
 /// Drops the file of a number where it has no name; any other object stays. It takes no memory and

@@ -4,47 +4,47 @@ ghost use Rattle.std.specs.Prelude.{◌≡◌, ◌+◌, ◌≤◌, ◌<◌, ℕ,
 ghost use Rattle.layout.specs.StateLimits.{limits_of};
 ghost use Rattle.layout.specs.Record.{change_of, made_of};
 ghost use Rattle.layout.specs.declared.inode.Inode.{Inode};
+ghost use Rattle.model.specs.Attributes.{KeepsTime};
 ghost use Rattle.model.specs.Paths.{IsName};
-ghost use Rattle.model.specs.Records.{Change, Made, TakesName, applied, create, is_vacant, node_of, work_of};
+ghost use Rattle.model.specs.Records.{Change, Made, TakesName, applied, create, is_vacant, node_of, stamped, work_of};
 ghost use Rattle.model.specs.Room.{cost};
 ghost use Rattle.model.specs.Volumes.{Volume};
+ghost use Rattle.model.specs.declared.errno.Errno.TheVariants.{DIRFULL};
 ghost use Rattle.buffers.specs.Errors.{IsFault};
 ghost use Rattle.images.specs.Soundness.{Detail};
 ghost use Rattle.inofile.specs.Objects.{IsObjectIn};
 ghost use Rattle.inofile.specs.Room.{memory_room};
-ghost use Rattle.records.specs.Room.{HasRoomOfNew};
 ghost use Rattle.inofile.specs.Volumes.{IsVolumeIn};
 ghost use Rattle.paths.specs.Standing.{Looks, StandsIn};
 ghost use Rattle.records.specs.Failures.{read_outcome};
-ghost use Rattle.records.specs.Prepared.{AreAtHand, DoesIn, IsReady};
+ghost use Rattle.records.specs.Marks.{AreMarkedNumbers};
+ghost use Rattle.records.specs.Plans.{IsPlanReady};
+ghost use Rattle.records.specs.Prepared.{AreAtHand, Completes, DoesIn, IsReady};
 ghost use Rattle.records.specs.Preparing.{DecidesKnown, DecidesRecord, IsKnownVolume};
+ghost use Rattle.records.specs.Room.{HasRoomOfNew};
 ghost use Rattle.records.specs.Shown.{NeverDamagedIn, OnVolumesIn};
 
 use crate::Failure;
 use crate::chmod::prepare_mode;
 use crate::contents::{Rewrite, prepare_bytes};
-use crate::directory_names::edit_parent;
 use crate::links::prepare_link;
-use crate::loading::{is_number, load_to_change};
+use crate::marks::{Marks, commit_marks, load_marked};
 use crate::name_removal::prepare_remove_name;
-use crate::naming::NameEdit;
-use crate::new_objects::{is_made, is_vacant, new_object};
+use crate::plans::{Plan, commit_plan, plan_create, plan_new};
 use crate::renaming::prepare_rename;
-use crate::steps::{ObjectUpdate, Update, commit_some, commit_update};
-use buffers::Blocks;
+use buffers::{BlockError, Blocks};
 use inode::Object;
 use inofile::InodeFile;
-use layout::{Entry, FIRST_NUMBER, InodeNumber, NewObject, Record};
-use model::Errno;
+use layout::{Edit, FIRST_NUMBER, InodeNumber, NewObject, Record};
+use model::{Time, Touch};
 use std::alloc::Global;
 
 /// A record's change of the image in memory, with all memory taken and all blocks read: what
-/// becomes of one object, and then of two more, if need be.
+/// becomes of objects, and which of them are touched then.
 #[derive(Drop)]
 pub struct Prepared {
-    pub(crate) first: ObjectUpdate,
-    pub(crate) next: Option<ObjectUpdate>,
-    pub(crate) last: Option<ObjectUpdate>,
+    pub(crate) plan: Plan,
+    pub(crate) marks: Marks,
 }
 
 /// Prepares what a record says; or tells an obstacle to it. Nothing changes by it. NoMemory and
@@ -55,17 +55,19 @@ pub fn prepare<B: Blocks>(
     blocks: &mut B,
     logged: &Record<'_>,
 ) -> Result<Prepared, Failure>
+    requires { KeepsTime (limits_of inodes.old.geometry).has_attributes (change_of logged.now).time }
     ensures { DecidesKnown B.Blocks blocks.old blocks.new inodes.old inodes.new
         (change_of logged.now) result }
 {
-    match logged {
-        Record::Create {
+    let time = logged.time;
+    match &logged.edit {
+        Edit::Create {
             number,
             parent,
             object,
             name,
-        } => prepare_create(alloc, inodes, blocks, *number, *parent, name, object),
-        Record::Write {
+        } => prepare_create(alloc, inodes, blocks, time, *number, *parent, name, object),
+        Edit::Write {
             number,
             offset,
             bytes,
@@ -74,88 +76,95 @@ pub fn prepare<B: Blocks>(
                 offset: *offset,
                 bytes,
             };
-            prepare_bytes(alloc, inodes, blocks, *number, &rewrite)
+            prepare_bytes(alloc, inodes, blocks, time, *number, &rewrite)
         }
-        Record::Truncate { number, size } => {
+        Edit::Truncate { number, size } => {
             let rewrite = Rewrite::Truncate { size: *size };
-            prepare_bytes(alloc, inodes, blocks, *number, &rewrite)
+            prepare_bytes(alloc, inodes, blocks, time, *number, &rewrite)
         }
-        Record::Link {
+        Edit::Link {
             number,
             parent,
             name,
-        } => prepare_link(alloc, inodes, blocks, *number, *parent, name),
-        Record::RemoveName { parent, name } => prepare_remove_name(
-            alloc, inodes, blocks, *parent, name,
+        } => prepare_link(alloc, inodes, blocks, time, *number, *parent, name),
+        Edit::RemoveName { parent, name } => prepare_remove_name(
+            alloc, inodes, blocks, time, *parent, name,
         ),
-        Record::Rename {
+        Edit::Rename {
             parent,
             name,
             new_parent,
             new_name,
-        } => prepare_rename(alloc, inodes, blocks, *parent, name, *new_parent, new_name),
-        Record::ChangeMode { number, mode } => prepare_mode(alloc, inodes, blocks, *number, *mode),
-        Record::SetFile { number, mode, size } => {
+        } => prepare_rename(
+            alloc,
+            inodes,
+            blocks,
+            time,
+            *parent,
+            name,
+            *new_parent,
+            new_name,
+        ),
+        Edit::ChangeMode { number, mode } => prepare_mode(
+            alloc, inodes, blocks, time, *number, *mode,
+        ),
+        Edit::SetFile { number, mode, size } => {
             let rewrite = Rewrite::Set {
                 mode: *mode,
                 size: *size,
             };
-            prepare_bytes(alloc, inodes, blocks, *number, &rewrite)
+            prepare_bytes(alloc, inodes, blocks, time, *number, &rewrite)
         }
     }
 }
 
 // Prepares that an object is made; or tells the first obstacle: DAMAGED where none may be made of
 // the number, DIRFULL where the parent doesn't take the name.
+#[allow(clippy::too_many_arguments)]
 fn prepare_create<B: Blocks>(
     alloc: Global,
     inodes: &mut InodeFile,
     blocks: &mut B,
+    time: Option<Time>,
     number: InodeNumber,
     parent: InodeNumber,
     name: &[u8],
     object: &NewObject<'_>,
 ) -> Result<Prepared, Failure>
+    requires { KeepsTime (limits_of inodes.old.geometry).has_attributes time }
     ensures { DecidesRecord B.Blocks blocks.old blocks.new inodes.old inodes.new
-        (create number parent (made_of object.now) name.now) result }
+        (stamped time (create number parent (made_of object.now) name.now)) result }
 {
-    let n = number.get();
-    if n < FIRST_NUMBER || n >= inodes.geometry().inodes() {
-        return Err(Failure::Refused(Errno::DAMAGED));
-    }
-    if !is_made(object) {
-        return Err(Failure::Refused(Errno::DAMAGED));
-    }
-    let vacant = is_vacant(alloc, inodes, blocks, number)?;
-    if !vacant {
-        return Err(Failure::Refused(Errno::DAMAGED));
-    }
-    let layout = inodes.geometry().layout();
-    let new = new_object(alloc, layout, blocks, object)?;
-    prepare_new(alloc, inodes, blocks, number, parent, name, new)
+    let plan = plan_create(alloc, inodes, blocks, number, parent, name, object)?;
+    let marks = Marks::of_entry(time, Touch::Data, Some(number), parent);
+    let prepared = with_marks(alloc, inodes, blocks, plan, marks)?;
+    Ok(prepared)
 }
 
 /// Prepares that this object is made of this number, which is vacant; or tells the obstacle:
 /// DIRFULL where the parent doesn't take the name.
+#[allow(clippy::too_many_arguments)]
 pub fn prepare_new<B: Blocks>(
     alloc: Global,
     inodes: &mut InodeFile,
     blocks: &mut B,
+    time: Option<Time>,
     number: InodeNumber,
     parent: InodeNumber,
     name: &[u8],
     object: Object,
 ) -> Result<Prepared, Failure>
+    requires time { KeepsTime (limits_of inodes.old.geometry).has_attributes time }
     requires low { FIRST_NUMBER ≤ number }
     requires high { number < inodes.old.geometry.inodes }
     ensures looks { Looks B.Blocks IsFault blocks.old blocks.new inodes.old inodes.new (read_outcome result) }
-    ensures full { IfOk (read_outcome result) (λ r. IfErr r (λ errno. errno ≡ Errno.DIRFULL)) }
+    ensures full { IfOk (read_outcome result) (λ r. IfErr r (λ errno. errno ≡ DIRFULL)) }
     ensures ready { IfOk result (IsReady inodes.new) }
     ensures does { (detail : Detail) (disk : ℕ → List ℕ) (settled : ℕ → Inode) (v : Volume)
         (made : Made) → StandsIn detail B.Blocks disk settled v blocks.old inodes.old → IsTrue (is_vacant (v number))
         → ((k : ℕ) → IsObjectIn detail disk k (settled number) object (Some (node_of made)))
         → HasRoomOfNew object
-        → IfOk result (λ x. DoesIn detail disk settled inodes.new v x (create number parent made name.now)) }
+        → IfOk result (λ x. DoesIn detail disk settled inodes.new v x (stamped time (create number parent made name.now))) }
     ensures named { IfOk result (λ _. IsName name.now) }
     ensures takes { (detail : Detail) → OnVolumesIn detail B.Blocks blocks.old inodes.old (λ disk settled v.
         IfOk result (λ _. TakesName (limits_of inodes.old.geometry) v parent name.now)) }
@@ -164,29 +173,27 @@ pub fn prepare_new<B: Blocks>(
         → IfOk (read_outcome result) (λ r. IfErr r (λ _. TakesName (limits_of inodes.old.geometry) v parent name.now → ⊥))) }
     ensures damaged { (detail : Detail) → NeverDamagedIn detail B.Blocks blocks.old inodes.old (read_outcome result) }
 {
-    let entry = Entry { number, name };
-    if !entry.fits(inodes.geometry().inodes()) {
-        return Err(Failure::Refused(Errno::DIRFULL));
-    }
-    if !is_number(inodes, parent) {
-        return Err(Failure::Refused(Errno::DIRFULL));
-    }
-    load_to_change(alloc, inodes, blocks, number)?;
-    let planned = edit_parent(alloc, inodes, blocks, parent, &NameEdit::Add(entry))?;
-    let Some(edit) = planned else {
-        return Err(Failure::Refused(Errno::DIRFULL));
-    };
-    Ok(Prepared {
-        first: ObjectUpdate {
-            number: parent,
-            update: Update::Names(edit),
-        },
-        next: Some(ObjectUpdate {
-            number,
-            update: Update::Set(Some(object)),
-        }),
-        last: None,
-    })
+    let plan = plan_new(alloc, inodes, blocks, number, parent, name, object)?;
+    let marks = Marks::of_entry(time, Touch::Data, Some(number), parent);
+    let prepared = with_marks(alloc, inodes, blocks, plan, marks)?;
+    Ok(prepared)
+}
+
+/// What is planned, and what is touched beside it: that is at hand from then on.
+pub(crate) fn with_marks<B: Blocks>(
+    alloc: Global,
+    inodes: &mut InodeFile,
+    blocks: &mut B,
+    plan: Plan,
+    marks: Marks,
+) -> Result<Prepared, BlockError>
+    requires ready { IsPlanReady inodes.old plan }
+    requires numbers { AreMarkedNumbers inodes.old.geometry.inodes marks }
+    requires time { KeepsTime (limits_of inodes.old.geometry).has_attributes marks.time }
+    ensures { Completes B.Blocks blocks.old blocks.new inodes.old inodes.new plan marks result }
+{
+    load_marked(alloc, inodes, blocks, &marks)?;
+    Ok(Prepared { plan, marks })
 }
 
 /// Puts a prepared change in force. It takes no memory and can't fail. A consistency point stores
@@ -207,8 +214,7 @@ pub fn commit(inodes: &mut InodeFile, prepared: Prepared)
         ≤ memory_room base inodes.old v
         + cost (limits_of inodes.old.geometry).costs (work_of v change) }
 {
-    let Prepared { first, next, last } = prepared;
-    commit_update(inodes, first);
-    commit_some(inodes, next);
-    commit_some(inodes, last);
+    let Prepared { plan, marks } = prepared;
+    commit_plan(inodes, plan);
+    commit_marks(inodes, marks);
 }

@@ -3,9 +3,10 @@
 ghost use Rattle.std.specs.Prelude.{◌≡◌, ◌≢◌, ◌≤◌, ◌↔◌, Option, None, Some, IsTrue, IfErr, IfOk, IfSome, IfNone};
 ghost use Rattle.layout.specs.StateLimits.{limits_of};
 ghost use Rattle.layout.specs.Directory.{IsEntry, named_of};
+ghost use Rattle.model.specs.Attributes.{KeepsTime};
 ghost use Rattle.model.specs.Laws.{is_own};
 ghost use Rattle.model.specs.Paths.{Name};
-ghost use Rattle.model.specs.Records.{IsBelow, rename};
+ghost use Rattle.model.specs.Records.{IsBelow, rename, stamped};
 ghost use Rattle.model.specs.Volumes.{entries, is_directory_node};
 ghost use Rattle.dirs.specs.Directory.{with_name};
 ghost use Rattle.dirs.specs.Room.{piece_count};
@@ -18,6 +19,7 @@ ghost use Rattle.records.specs.Entering.{Accepts, EditsIn, IsNameEdit, PreparesE
 ghost use Rattle.records.specs.Failures.{read_outcome};
 ghost use Rattle.records.specs.Looking.{Finds};
 ghost use Rattle.records.specs.Moving.{IsSomeAlone, Moves, MovesOver, ReplacesBy, edit_for};
+ghost use Rattle.records.specs.Planning.{DecidesEditOn};
 ghost use Rattle.records.specs.Preparing.{DecidesKnown, DecidesOn, IsKnownVolume};
 ghost use Rattle.records.specs.Shown.{NeverDamagedIn, OnVolumesIn};
 ghost use Rattle.records.specs.Steps.{IsAlone, IsAtHand, IsSomeAtHand, TakesUpdate};
@@ -27,32 +29,38 @@ use crate::below::is_below;
 use crate::directory_names::{edit_known, edit_parent};
 use crate::kinds::kind_at;
 use crate::loading::{is_number, is_same, load_to_change};
+use crate::marks::Marks;
 use crate::name_removal::{number_in, release};
 use crate::naming::NameEdit;
+use crate::plans::Plan;
+use crate::prepared::with_marks;
 use crate::steps::{ObjectUpdate, Update};
 use crate::{Failure, Prepared};
 use buffers::{BlockError, Blocks};
 use dirs::Edit;
 use inofile::InodeFile;
 use layout::{Entry, InodeNumber, is_name};
-use model::Errno;
+use model::{Errno, Time};
 use paths::Found;
 use std::alloc::Global;
 
 /// Prepares that what has a name gets the new one in its place, and that what had the new name has
 /// it no more; or tells an obstacle: EINVAL where the object would come below itself, DIRFULL where
 /// the new parent's number is none, or else as `prepare_move` does.
+#[allow(clippy::too_many_arguments)]
 pub(crate) fn prepare_rename<'n, B: Blocks>(
     alloc: Global,
     inodes: &mut InodeFile,
     blocks: &mut B,
+    time: Option<Time>,
     parent: InodeNumber,
     name: &'n [u8],
     new_parent: InodeNumber,
     new_name: &'n [u8],
 ) -> Result<Prepared, Failure>
+    requires { KeepsTime (limits_of inodes.old.geometry).has_attributes time }
     ensures { DecidesKnown B.Blocks blocks.old blocks.new inodes.old inodes.new
-        (rename parent name.now new_parent new_name.now) result }
+        (stamped time (rename parent name.now new_parent new_name.now)) result }
 {
     if !is_number(inodes, parent) {
         return Err(Failure::Refused(Errno::ENOENT));
@@ -70,7 +78,7 @@ pub(crate) fn prepare_rename<'n, B: Blocks>(
     }
     let target = number_in(alloc, inodes, blocks, new_parent, new_name)?;
     prepare_move(
-        alloc, inodes, blocks, parent, name, number, new_parent, new_name, target,
+        alloc, inodes, blocks, time, parent, name, number, new_parent, new_name, target,
     )
 }
 
@@ -112,6 +120,7 @@ pub fn prepare_move<'n, B: Blocks>(
     alloc: Global,
     inodes: &mut InodeFile,
     blocks: &mut B,
+    time: Option<Time>,
     parent: InodeNumber,
     name: &'n [u8],
     number: InodeNumber,
@@ -119,11 +128,46 @@ pub fn prepare_move<'n, B: Blocks>(
     new_name: &'n [u8],
     target: Option<InodeNumber>,
 ) -> Result<Prepared, Failure>
+    requires time { KeepsTime (limits_of inodes.old.geometry).has_attributes time }
     requires parent { IsInodeNumber inodes.old.geometry.inodes parent }
     requires number { IsInodeNumber inodes.old.geometry.inodes number }
     requires new_parent { IsInodeNumber inodes.old.geometry.inodes new_parent }
     requires target { IfSome target (IsInodeNumber inodes.old.geometry.inodes) }
     ensures { DecidesOn (λ detail disk settled v. StandsIn detail B.Blocks disk settled v blocks.old inodes.old
+        × MovesOver v parent name.now number new_parent new_name.now target)
+        (λ detail disk settled v. StandsIn detail B.Blocks disk settled v blocks.old inodes.old
+        × MovesOver v parent name.now number new_parent new_name.now target
+        × (IsBelow (entries v) number new_parent → ⊥))
+        B.Blocks blocks.old blocks.new inodes.old inodes.new
+        (stamped time (rename parent name.now new_parent new_name.now)) result }
+{
+    let replaced = target;
+    let plan = plan_move(
+        alloc, inodes, blocks, parent, name, number, new_parent, new_name, target,
+    )?;
+    let marks = Marks::of_move(time, number, replaced, parent, new_parent);
+    let prepared = with_marks(alloc, inodes, blocks, plan, marks)?;
+    Ok(prepared)
+}
+
+// What becomes of the objects.
+#[allow(clippy::too_many_arguments)]
+fn plan_move<'n, B: Blocks>(
+    alloc: Global,
+    inodes: &mut InodeFile,
+    blocks: &mut B,
+    parent: InodeNumber,
+    name: &'n [u8],
+    number: InodeNumber,
+    new_parent: InodeNumber,
+    new_name: &'n [u8],
+    target: Option<InodeNumber>,
+) -> Result<Plan, Failure>
+    requires parent { IsInodeNumber inodes.old.geometry.inodes parent }
+    requires number { IsInodeNumber inodes.old.geometry.inodes number }
+    requires new_parent { IsInodeNumber inodes.old.geometry.inodes new_parent }
+    requires target { IfSome target (IsInodeNumber inodes.old.geometry.inodes) }
+    ensures { DecidesEditOn (λ detail disk settled v. StandsIn detail B.Blocks disk settled v blocks.old inodes.old
         × MovesOver v parent name.now number new_parent new_name.now target)
         (λ detail disk settled v. StandsIn detail B.Blocks disk settled v blocks.old inodes.old
         × MovesOver v parent name.now number new_parent new_name.now target
@@ -229,13 +273,13 @@ fn place<'n, B: Blocks>(
     new_parent: InodeNumber,
     entry: &Entry<'n>,
     replaced: Option<ObjectUpdate>,
-) -> Result<Prepared, Failure>
+) -> Result<Plan, Failure>
     requires parent { IsInodeNumber inodes.old.geometry.inodes parent }
     requires new_parent { IsInodeNumber inodes.old.geometry.inodes new_parent }
     requires entry { IsEntry inodes.old.geometry.inodes (named_of entry.now) }
     requires at_hand { IsSomeAtHand inodes.old replaced }
     requires alone { IsSomeAlone replaced }
-    ensures { DecidesOn (λ detail disk settled v. StandsIn detail B.Blocks disk settled v blocks.old inodes.old
+    ensures { DecidesEditOn (λ detail disk settled v. StandsIn detail B.Blocks disk settled v blocks.old inodes.old
         × Moves detail disk settled v parent name.now entry.now.number new_parent entry.now.name.now replaced)
         (λ detail disk settled v. StandsIn detail B.Blocks disk settled v blocks.old inodes.old
         × Moves detail disk settled v parent name.now entry.now.number new_parent entry.now.name.now replaced
@@ -255,7 +299,7 @@ fn place<'n, B: Blocks>(
         let Some(edit) = planned else {
             return Err(Failure::Refused(Errno::DIRFULL));
         };
-        return Ok(Prepared {
+        return Ok(Plan {
             first: ObjectUpdate {
                 number: new_parent,
                 update: Update::Names(edit),
@@ -269,7 +313,7 @@ fn place<'n, B: Blocks>(
     let Some((added, removed)) = both else {
         return Err(Failure::Refused(Errno::DIRFULL));
     };
-    Ok(Prepared {
+    Ok(Plan {
         first: ObjectUpdate {
             number: new_parent,
             update: Update::Names(added),

@@ -21,7 +21,7 @@ pub record Step (detail : Detail) (limits : Limits) (body after : List ℕ) (cha
   pub change : Change
   pub more : List Change
   pub are : changes ≡ change ∷ more
-  pub spells : SpellsRecord body change
+  pub spells : SpellsRecord limits.has_attributes body change
   pub applies : AppliesIn detail limits now change
   pub leads : LeadTo detail limits after more (applied change now) w
 
@@ -34,10 +34,10 @@ step detail limits rest body after (c ∷ more) now w short is leads =
       change = c;
       more = more;
       are = refl;
-      spells = record { is = All-head IsChange c more leads.are; spelled = same.0 };
+      spells = record { is = All-head (IsChange limits.has_attributes) c more leads.are; spelled = same.0 };
       applies = leads.replays.0;
       leads = record {
-        are = All-tail IsChange c more leads.are;
+        are = All-tail (IsChange limits.has_attributes) c more leads.are;
         held = subst (λ (l : List ℕ). HoldsBodies l (bodies_of more)) (sym same.1) leads.held.3;
         replays = leads.replays.1;
       };
@@ -100,13 +100,13 @@ none_behind rest shut = record { held = shut; left_is = omega arith }
 
 -- a record in front of others that lead on
 pub in_front : (detail : Detail) (limits : Limits) (rest body after : List ℕ) (change : Change) (more : List Change) (now w : Volume) → length body < 2 ^ 32 → rest ≡ record_of body ++ after
-    → SpellsRecord body change → AppliesIn detail limits now change → LeadTo detail limits after more (applied change now) w → LeadTo detail limits rest (change ∷ more) now w
+    → SpellsRecord limits.has_attributes body change → AppliesIn detail limits now change → LeadTo detail limits after more (applied change now) w → LeadTo detail limits rest (change ∷ more) now w
 in_front detail limits rest body after change more now w short is spells applies leads = record {
-  are = All-cons IsChange change more spells.is leads.are;
+  are = All-cons (IsChange limits.has_attributes) change more spells.is leads.are;
   held = (after, subst (λ (b : List ℕ). length b < 2 ^ 32) spells.spelled short, is ∙ ap (λ (b : List ℕ). record_of b ++ after) spells.spelled, leads.held);
   replays = (applies, leads.replays);
 }
 
 -- behind a closed gate none lead on
 pub none_lead : (detail : Detail) (limits : Limits) (rest : List ℕ) (now : Volume) → IsClosed rest → LeadTo detail limits rest [] now now
-none_lead detail limits rest now shut = record { are = All-nil IsChange; held = shut; replays = refl }
+none_lead detail limits rest now shut = record { are = All-nil (IsChange limits.has_attributes); held = shut; replays = refl }

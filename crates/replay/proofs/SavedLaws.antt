@@ -65,7 +65,7 @@ pub lead_on : (detail : Detail) (limits : Limits) (nvram : List ℕ) (saved : Sa
 lead_on detail limits nvram saved changes old new tells saves =
     let there = tells.held (bodies_of changes) saves.held in
     let parts = in_two changes there.0 there.1 there.2 in
-    let are = subst (All IsChange) parts.joined saves.are in
+    let are = subst (All (IsChange limits.has_attributes)) parts.joined saves.are in
     let steps = replays_parts detail limits parts.one parts.two old new (subst (λ (l : List Change). ReplaysIn detail limits old l new) parts.joined (replays_by_one detail limits changes old new saves.replays)) in
     record {
       one = parts.one;
@@ -73,12 +73,12 @@ lead_on detail limits nvram saved changes old new tells saves =
       joined = parts.joined;
       mid = steps.0;
       leads = record {
-        are = all_first IsChange parts.one parts.two are;
+        are = all_first (IsChange limits.has_attributes) parts.one parts.two are;
         held = subst (HoldsBodies saved.first.records) (sym parts.first_is) there.3;
         replays = steps.1;
       };
       leads_on = record {
-        are = all_second IsChange parts.one parts.two are;
+        are = all_second (IsChange limits.has_attributes) parts.one parts.two are;
         held = subst (HoldsBodies saved.second.records) (sym parts.second_is) there.4;
         replays = steps.2;
       };
@@ -121,7 +121,7 @@ saves_both detail limits nvram saved one two v mid w first second tells leads le
     let stands = tells.ends (bodies_of one) (bodies_of two) first second held held_too in
     let all : all_bodies stands.bodies ≡ bodies_of (one ++ two) = stands.all ∙ sym (joined_bodies (one ++ two) one two refl) in
     record {
-      are = All-append IsChange one two leads.are leads_on.are;
+      are = All-append (IsChange limits.has_attributes) one two leads.are leads_on.are;
       held = subst (λ (n : ℕ). LogHolds n saved.generation nvram (bodies_of (one ++ two))) (end_half saved first second)
           (subst (LogHolds (end_of saved first second).half saved.generation nvram) all stands.stands.holds);
       replays = replays_for detail limits (one ++ two) v w (replays_more detail limits one two v mid w leads.replays leads_on.replays);

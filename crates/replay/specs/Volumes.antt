@@ -1,5 +1,5 @@
 -- The volume that memory stands for, and records that lead from one to another.
-use Rattle.std.specs.Prelude.{ℕ, ◌≡◌, ◌⊎◌, ◌+◌, ◌≤◌, List, [], ◌∷◌, All, Result, MatchResult, map}
+use Rattle.std.specs.Prelude.{ℕ, ◌≡◌, ◌⊎◌, ◌+◌, ◌≤◌, Bool, List, [], ◌∷◌, All, Result, MatchResult, map}
 use Rattle.model.specs.declared.limits.Limits.{Limits}
 use Rattle.layout.specs.StateLimits.{limits_of}
 use Rattle.layout.specs.Log.{HoldsBodies, LogHolds}
@@ -37,9 +37,9 @@ HasVolume = HasVolumeIn by_bytes
 abbrev pub RaisesRoom : InodeFile → Volume → InodeFile → Volume → ℕ → Type 0
 RaisesRoom s v t w k = (base : Volume) → memory_room base t w ≤ memory_room base s v + k
 
--- the body of a record of the log
-pub record SpellsRecord (body : List ℕ) (change : Change) : Type 0 where
-  pub is : IsChange change
+-- the body of a record of the log, where objects have times or not
+pub record SpellsRecord (has_attributes : Bool) (body : List ℕ) (change : Change) : Type 0 where
+  pub is : IsChange has_attributes change
   pub spelled : body ≡ change_bytes change
 
 -- the bodies of records
@@ -63,7 +63,7 @@ ReplaysIn detail limits v (change ∷ changes) w = AppliesIn detail limits v cha
 
 -- the bytes from a gate on hold these records, which lead from one volume to another
 pub record LeadTo (detail : Detail) (limits : Limits) (records : List ℕ) (changes : List Change) (old new : Volume) : Type 0 where
-  pub are : All IsChange changes
+  pub are : All (IsChange limits.has_attributes) changes
   pub held : HoldsBodies records (bodies_of changes)
   pub replays : ReplaysIn detail limits old changes new
 
@@ -79,7 +79,7 @@ pub record HasReplayed (costs : Costs) (records : List ℕ) (changes : List Chan
 
 -- the log that was saved over a root holds these records, which lead from one volume to another
 pub record SavesRecordsIn (detail : Detail) (limits : Limits) (nvram : List ℕ) (saved : Saved) (changes : List Change) (old new : Volume) : Type 0 where
-  pub are : All IsChange changes
+  pub are : All (IsChange limits.has_attributes) changes
   pub held : LogHolds saved.half saved.generation nvram (bodies_of changes)
   pub replays : ReplaysFor detail limits old changes new
 

@@ -16,12 +16,12 @@ ghost use Rattle.replay.specs.Costs.{IsSizeBefore, KnowsFile};
 ghost use Rattle.replay.specs.declared.costs.TheConstants.{MOST_COST};
 
 use inofile::InodeFile;
-use layout::{BLOCK_BYTES, Kind, Record};
+use layout::{BLOCK_BYTES, Edit, Kind, Record};
 use model::Costs;
 
 /// The most that it may store for one record of an image: for 65,536 bytes, which touch 17 blocks
-/// of a great file.
-pub const MOST_COST: u64 = 42;
+/// of a file that has times.
+pub const MOST_COST: u64 = 50;
 
 /// How many bytes the file has that a record writes to or gives a size, before it is put in force:
 /// the file is in memory then. Of any other record 0.
@@ -30,15 +30,15 @@ pub fn size_before(inodes: &InodeFile, logged: &Record<'_>) -> u64
         (v : Volume) → IsVolumeIn detail count disk settled inodes.now v → KnowsFile inodes.now (change_of logged.now)
         → IsSizeBefore v (change_of logged.now) result }
 {
-    match logged {
-        Record::Write { number, .. } => file_size(inodes, number.get()),
-        Record::Truncate { number, .. } => file_size(inodes, number.get()),
-        Record::SetFile { number, .. } => file_size(inodes, number.get()),
-        Record::Create { .. }
-        | Record::Link { .. }
-        | Record::RemoveName { .. }
-        | Record::Rename { .. }
-        | Record::ChangeMode { .. } => 0,
+    match logged.edit {
+        Edit::Write { number, .. } => file_size(inodes, number.get()),
+        Edit::Truncate { number, .. } => file_size(inodes, number.get()),
+        Edit::SetFile { number, .. } => file_size(inodes, number.get()),
+        Edit::Create { .. }
+        | Edit::Link { .. }
+        | Edit::RemoveName { .. }
+        | Edit::Rename { .. }
+        | Edit::ChangeMode { .. } => 0,
     }
 }
 
@@ -69,17 +69,17 @@ pub fn cost_of(costs: Costs, logged: &Record<'_>, size: u64) -> u64
     ensures few { (s : Sizes) → costs ≡ (limits_of s).costs → result ≤ MOST_COST }
     ensures bounded { result < 2 ^ 33 }
 {
-    match logged {
-        Record::Create { .. } | Record::Link { .. } | Record::Rename { .. } => {
+    match logged.edit {
+        Edit::Create { .. } | Edit::Link { .. } | Edit::Rename { .. } => {
             u64::from(costs.adds_name)
         }
-        Record::RemoveName { .. } => u64::from(costs.removes_name),
-        Record::Write { offset, bytes, .. } => {
-            let more = beside(costs, size, *offset, bytes.len());
-            2 * touched(*offset, bytes.len()) + u64::from(more)
+        Edit::RemoveName { .. } => u64::from(costs.removes_name),
+        Edit::Write { offset, bytes, .. } => {
+            let more = beside(costs, size, offset, bytes.len());
+            2 * touched(offset, bytes.len()) + u64::from(more)
         }
-        Record::Truncate { .. } | Record::SetFile { .. } => u64::from(costs.file),
-        Record::ChangeMode { .. } => u64::from(costs.mode),
+        Edit::Truncate { .. } | Edit::SetFile { .. } => u64::from(costs.file),
+        Edit::ChangeMode { .. } => u64::from(costs.mode),
     }
 }
 
@@ -111,13 +111,13 @@ fn touched(offset: u64, count: usize) -> u64
 pub fn headroom_of(costs: Costs, logged: &Record<'_>, size: u64) -> u64
     ensures headroom { (v : Volume) → IsSizeBefore v (change_of logged.now) size
         → result ≡ room.headroom costs (work_of v (change_of logged.now)) }
-    ensures few { (s : Sizes) → costs ≡ (limits_of s).costs → result ≤ 16 }
+    ensures few { (s : Sizes) → costs ≡ (limits_of s).costs → result ≤ 24 }
     ensures bounded { result < 2 ^ 32 }
 {
-    match logged {
-        Record::RemoveName { .. } | Record::ChangeMode { .. } => 0,
-        Record::Truncate { size: new, .. } => headroom_to(costs, size, *new),
-        Record::SetFile { size: new, .. } => headroom_to(costs, size, *new),
+    match logged.edit {
+        Edit::RemoveName { .. } | Edit::ChangeMode { .. } => 0,
+        Edit::Truncate { size: new, .. } => headroom_to(costs, size, new),
+        Edit::SetFile { size: new, .. } => headroom_to(costs, size, new),
         _ => u64::from(costs.headroom),
     }
 }
@@ -125,7 +125,7 @@ pub fn headroom_of(costs: Costs, logged: &Record<'_>, size: u64) -> u64
 /// Those behind a record that gives a file of this size another one.
 fn headroom_to(costs: Costs, size: u64, new: u64) -> u64
     ensures headroom { result ≡ (if nat_lt size new then costs.headroom else 0) }
-    ensures few { (s : Sizes) → costs ≡ (limits_of s).costs → result ≤ 16 }
+    ensures few { (s : Sizes) → costs ≡ (limits_of s).costs → result ≤ 24 }
     ensures bounded { result < 2 ^ 32 }
 {
     if size < new {

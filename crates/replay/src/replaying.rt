@@ -92,7 +92,7 @@ pub fn replay_record<B: Blocks>(
     ensures replays { (detail : Detail) (disk : ℕ → List ℕ) (settled : ℕ → Inode) (v : Volume) (change : Change)
         → B.Shows blocks.old disk
         → HasVolumeIn detail (B.count blocks.old) disk settled inodes.old v
-        → SpellsRecord body.now change
+        → SpellsRecord (limits_of inodes.old.geometry).has_attributes body.now change
         → AppliesIn detail (limits_of inodes.old.geometry) v change
         → ComesTo result (λ cost. (cost ≡ room.cost (limits_of inodes.old.geometry).costs (work_of v change))
         × HasVolumeIn detail (B.count blocks.old) disk settled inodes.new (applied change v)
@@ -100,12 +100,13 @@ pub fn replay_record<B: Blocks>(
     ensures applies { (detail : Detail) (disk : ℕ → List ℕ) (settled : ℕ → Inode) (v : Volume)
         → B.Shows blocks.old disk
         → HasVolumeIn detail (B.count blocks.old) disk settled inodes.old v
-        → IfOk result (λ _. (change : Change) × SpellsRecord body.now change
+        → IfOk result (λ _. (change : Change)
+        × SpellsRecord (limits_of inodes.old.geometry).has_attributes body.now change
         × AppliesIn detail (limits_of inodes.old.geometry) v change
         × HasVolumeIn detail (B.count blocks.old) disk settled inodes.new (applied change v)) }
 {
     records_keep_volumes();
-    let Some(logged) = Record::read(body) else {
+    let Some(logged) = Record::read(inodes.geometry().layout(), body) else {
         return Err(BlockError::Damaged);
     };
     let prepared = match prepare(alloc, inodes, blocks, &logged) {

@@ -41,8 +41,9 @@ ODD_STARTS = ['@', '@03', '@-1', '@3x', '@4294967296', '@4294967295', '@0', '@1'
 ODD_ENDS = ['/..', '/../a', '/a/..', '/.', '/./a', '//a', '/', '/%00', '/' + 'n' * 256, '/' + 'l' * 255, '/@3', '/@4/a']
 ENTRIES = [1, 1, 2, 3, 5, 1024]
 ODD_ENTRIES = [0, 1025, 4294967295]
-ON_DESCRIPTORS = ['close', 'read', 'write', 'pread', 'pwrite', 'lseek', 'ftruncate', 'fstat',
-                  'fsync']
+# None of the weights above names `fchmod`: it would change the lists that stand.
+ON_DESCRIPTORS = ['close', 'read', 'write', 'pread', 'pwrite', 'lseek', 'ftruncate', 'fchmod',
+                  'fstat', 'fsync']
 
 
 class Numbers(random.Random):
@@ -253,6 +254,8 @@ def on_descriptor(numbers, system, name):
         return '%s %s %d' % (chosen, numbers.choice(['set', 'cur', 'end']), offset)
     if name == 'ftruncate':
         return '%s %d' % (chosen, size(numbers))
+    if name == 'fchmod':
+        return '%s %04o' % (chosen, numbers.choice([0o700, 0o644, 0o7777, 0]))
     return chosen
 
 

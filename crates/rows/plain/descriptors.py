@@ -2,7 +2,7 @@
 
 import re
 
-from calls import GREATEST_FILE, MOST_BYTES, create, resize, shown_data, shown_figures
+from calls import GREATEST_FILE, MOST_BYTES, change_mode, create, resize, shown_data, shown_figures
 from calls import shown_stat, test_size, text_of
 from model import refuse
 from objects import BLOCK, File
@@ -162,4 +162,9 @@ def ftruncate(system, words):
         refuse('EINVAL')
     test_size(size)
     resize(system, opened.number, size)
+    return b'ok'
+
+
+def fchmod(system, words):
+    change_mode(system, opened_of(system, words[1])[1].number, int(words[2], 8))
     return b'ok'

@@ -52,6 +52,7 @@ COMMANDS = {
     b'pwrite': descriptors.write,
     b'lseek': descriptors.lseek,
     b'ftruncate': descriptors.ftruncate,
+    b'fchmod': descriptors.fchmod,
     b'fstat': descriptors.fstat,
     b'fsync': descriptors.fsync,
     b'snap': snapshots.snap,

@@ -76,6 +76,7 @@ no_command verb.Pread e vs = absurd (cc)
 no_command verb.Pwrite e vs = absurd (cc)
 no_command verb.Lseek e vs = absurd (cc)
 no_command verb.Ftruncate e vs = absurd (cc)
+no_command verb.Fchmod e vs = absurd (cc)
 no_command verb.Fstat e vs = absurd (cc)
 no_command verb.Fsync e vs = absurd (cc)
 no_command verb.Extent e vs = absurd (cc)
@@ -156,14 +157,15 @@ is_change verb.Readlink a b c d e f = absurd (e refl)
 is_change verb.Get a b c d e f = absurd (f refl)
 is_change v a b c d e f = refl
 
-pub not_file : (v : Verb) → v ≢ verb.Read → v ≢ verb.Write → v ≢ verb.Pread → v ≢ verb.Pwrite → v ≢ verb.Lseek → v ≢ verb.Ftruncate → Values (file_form v) → ⊥
-not_file verb.Read a b c d e f vs = a refl
-not_file verb.Write a b c d e f vs = b refl
-not_file verb.Pread a b c d e f vs = c refl
-not_file verb.Pwrite a b c d e f vs = d refl
-not_file verb.Lseek a b c d e f vs = e refl
-not_file verb.Ftruncate a b c d e f vs = f refl
-not_file v a b c d e f vs = vs
+pub not_file : (v : Verb) → v ≢ verb.Read → v ≢ verb.Write → v ≢ verb.Pread → v ≢ verb.Pwrite → v ≢ verb.Lseek → v ≢ verb.Ftruncate → v ≢ verb.Fchmod → Values (file_form v) → ⊥
+not_file verb.Read a b c d e f g vs = a refl
+not_file verb.Write a b c d e f g vs = b refl
+not_file verb.Pread a b c d e f g vs = c refl
+not_file verb.Pwrite a b c d e f g vs = d refl
+not_file verb.Lseek a b c d e f g vs = e refl
+not_file verb.Ftruncate a b c d e f g vs = f refl
+not_file verb.Fchmod a b c d e f g vs = g refl
+not_file v a b c d e f g vs = vs
 
 pub is_file : (v : Verb) → v ≢ verb.Open → v ≢ verb.OpenStat → v ≢ verb.Close → v ≢ verb.Fstat → v ≢ verb.Fsync → v ≢ verb.Extent → v ≢ verb.Sync → v ≢ verb.Df → v ≢ verb.Statfs → command_form v ≡ file_form v
 is_file verb.Open a b c d e f g h i = absurd (a refl)

@@ -178,6 +178,7 @@ verb_is_word verb.Pread = letters_are_word (codes "pread") refl
 verb_is_word verb.Pwrite = letters_are_word (codes "pwrite") refl
 verb_is_word verb.Lseek = letters_are_word (codes "lseek") refl
 verb_is_word verb.Ftruncate = letters_are_word (codes "ftruncate") refl
+verb_is_word verb.Fchmod = letters_are_word (codes "fchmod") refl
 verb_is_word verb.Fstat = letters_are_word (codes "fstat") refl
 verb_is_word verb.Fsync = letters_are_word (codes "fsync") refl
 verb_is_word verb.Extent = letters_are_word (codes "extent") refl

@@ -6,7 +6,7 @@ use Rattle.script.specs.declared.verb.Verb.{Verb}
 use Rattle.script.specs.declared.verb.Verb.TheVariants as verb
 
 abbrev pub all_verbs : List Verb
-all_verbs = verb.List ∷ verb.Entries ∷ verb.Stat ∷ verb.Lstat ∷ verb.Readlink ∷ verb.Get ∷ verb.Mkdir ∷ verb.Rmdir ∷ verb.Unlink ∷ verb.Link ∷ verb.Symlink ∷ verb.Rename ∷ verb.RenameNew ∷ verb.Chmod ∷ verb.Truncate ∷ verb.Store ∷ verb.Set ∷ verb.Open ∷ verb.OpenStat ∷ verb.Close ∷ verb.Read ∷ verb.Write ∷ verb.Pread ∷ verb.Pwrite ∷ verb.Lseek ∷ verb.Ftruncate ∷ verb.Fstat ∷ verb.Fsync ∷ verb.Extent ∷ verb.Sync ∷ verb.Df ∷ verb.Statfs ∷ verb.Snap ∷ verb.Take ∷ verb.Delete ∷ verb.Restore ∷ verb.In ∷ []
+all_verbs = verb.List ∷ verb.Entries ∷ verb.Stat ∷ verb.Lstat ∷ verb.Readlink ∷ verb.Get ∷ verb.Mkdir ∷ verb.Rmdir ∷ verb.Unlink ∷ verb.Link ∷ verb.Symlink ∷ verb.Rename ∷ verb.RenameNew ∷ verb.Chmod ∷ verb.Truncate ∷ verb.Store ∷ verb.Set ∷ verb.Open ∷ verb.OpenStat ∷ verb.Close ∷ verb.Read ∷ verb.Write ∷ verb.Pread ∷ verb.Pwrite ∷ verb.Lseek ∷ verb.Ftruncate ∷ verb.Fchmod ∷ verb.Fstat ∷ verb.Fsync ∷ verb.Extent ∷ verb.Sync ∷ verb.Df ∷ verb.Statfs ∷ verb.Snap ∷ verb.Take ∷ verb.Delete ∷ verb.Restore ∷ verb.In ∷ []
 
 -- a word that names none of all verbs names no verb
 pub none_named : (word : List ℕ) → All (λ v. word ≡ verb_name v → ⊥) all_verbs → (v : Verb) → word ≡ verb_name v → ⊥
@@ -36,17 +36,18 @@ none_named word none verb.Pread = none 22 verb.Pread (lit< tt)
 none_named word none verb.Pwrite = none 23 verb.Pwrite (lit< tt)
 none_named word none verb.Lseek = none 24 verb.Lseek (lit< tt)
 none_named word none verb.Ftruncate = none 25 verb.Ftruncate (lit< tt)
-none_named word none verb.Fstat = none 26 verb.Fstat (lit< tt)
-none_named word none verb.Fsync = none 27 verb.Fsync (lit< tt)
-none_named word none verb.Extent = none 28 verb.Extent (lit< tt)
-none_named word none verb.Sync = none 29 verb.Sync (lit< tt)
-none_named word none verb.Df = none 30 verb.Df (lit< tt)
-none_named word none verb.Statfs = none 31 verb.Statfs (lit< tt)
-none_named word none verb.Snap = none 32 verb.Snap (lit< tt)
-none_named word none verb.Take = none 33 verb.Take (lit< tt)
-none_named word none verb.Delete = none 34 verb.Delete (lit< tt)
-none_named word none verb.Restore = none 35 verb.Restore (lit< tt)
-none_named word none verb.In = none 36 verb.In (lit< tt)
+none_named word none verb.Fchmod = none 26 verb.Fchmod (lit< tt)
+none_named word none verb.Fstat = none 27 verb.Fstat (lit< tt)
+none_named word none verb.Fsync = none 28 verb.Fsync (lit< tt)
+none_named word none verb.Extent = none 29 verb.Extent (lit< tt)
+none_named word none verb.Sync = none 30 verb.Sync (lit< tt)
+none_named word none verb.Df = none 31 verb.Df (lit< tt)
+none_named word none verb.Statfs = none 32 verb.Statfs (lit< tt)
+none_named word none verb.Snap = none 33 verb.Snap (lit< tt)
+none_named word none verb.Take = none 34 verb.Take (lit< tt)
+none_named word none verb.Delete = none 35 verb.Delete (lit< tt)
+none_named word none verb.Restore = none 36 verb.Restore (lit< tt)
+none_named word none verb.In = none 37 verb.In (lit< tt)
 
 pub no_verb : (r : Option Verb) (word : List ℕ) → IfNone r (All (λ v. word ≡ verb_name v → ⊥) all_verbs) → IfNone r ((v : Verb) → word ≡ verb_name v → ⊥)
 no_verb None word none = none_named word none
@@ -83,6 +84,7 @@ named verb.Pread = refl
 named verb.Pwrite = refl
 named verb.Lseek = refl
 named verb.Ftruncate = refl
+named verb.Fchmod = refl
 named verb.Fstat = refl
 named verb.Fsync = refl
 named verb.Extent = refl

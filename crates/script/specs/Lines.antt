@@ -67,6 +67,7 @@ spelling_of (command.Pread fd offset count) = plain verb.Pread (fd, (offset, (co
 spelling_of (command.Pwrite fd offset bytes) = plain verb.Pwrite (fd, (offset, (bytes, tt)))
 spelling_of (command.Lseek fd whence offset) = plain verb.Lseek (fd, (whence, (offset, tt)))
 spelling_of (command.Ftruncate fd size) = plain verb.Ftruncate (fd, (size, tt))
+spelling_of (command.Fchmod fd mode) = plain verb.Fchmod (fd, (mode, tt))
 spelling_of (command.Fstat fd) = plain verb.Fstat (fd, tt)
 spelling_of (command.Fsync fd) = plain verb.Fsync (fd, tt)
 spelling_of (command.Extent path offset) = plain verb.Extent (path, (offset, tt))

@@ -32,6 +32,7 @@ verb_name verb.Pread = codes "pread"
 verb_name verb.Pwrite = codes "pwrite"
 verb_name verb.Lseek = codes "lseek"
 verb_name verb.Ftruncate = codes "ftruncate"
+verb_name verb.Fchmod = codes "fchmod"
 verb_name verb.Fstat = codes "fstat"
 verb_name verb.Fsync = codes "fsync"
 verb_name verb.Extent = codes "extent"
@@ -91,7 +92,8 @@ call_form verb.Readlink = field form.text end
 call_form verb.Get = field form.text (field form.offset (field form.count end))
 call_form v = change_form v
 
--- the fields of a command that moves bytes of an open file, or its offset
+-- the fields of a command that moves bytes of an open file, or its offset, or changes its size or
+-- its mode
 abbrev pub file_form : Verb → Form
 file_form verb.Read = field form.count (field form.count end)
 file_form verb.Write = field form.count (field form.bytes end)
@@ -99,6 +101,7 @@ file_form verb.Pread = field form.count (field form.offset (field form.count end
 file_form verb.Pwrite = field form.count (field form.offset (field form.bytes end))
 file_form verb.Lseek = field form.count (field form.whence (field form.offset end))
 file_form verb.Ftruncate = field form.count (field form.offset end)
+file_form verb.Fchmod = field form.count (field form.mode end)
 file_form v = none
 
 -- the fields of other commands; a new file has mode 0644 unless another is written

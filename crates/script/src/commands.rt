@@ -159,7 +159,7 @@ fn read_plain(alloc: Global, verb: Verb, words: &[&[u8]]) -> Result<Command<'sta
 }
 
 /// The command that a first word and its fields spell, one that moves bytes of an open file, or its
-/// offset.
+/// offset, or changes its size or its mode.
 fn read_file(alloc: Global, verb: Verb, words: &[&[u8]]) -> Result<Command<'static>, ScriptError>
     ensures { ReadsFields (file_form verb) command_words IsCommandInForm (verb_name verb ∷ [])
         (map (λ word. word.now) words.now) result }
@@ -188,6 +188,10 @@ fn read_file(alloc: Global, verb: Verb, words: &[&[u8]]) -> Result<Command<'stat
         Verb::Ftruncate => {
             let Then(fd, Then(size, End)) = Fields::read(alloc, words)?;
             Ok(Command::Ftruncate { fd, size })
+        }
+        Verb::Fchmod => {
+            let Then(fd, Then(mode, End)) = Fields::read(alloc, words)?;
+            Ok(Command::Fchmod { fd, mode })
         }
         _ => Err(ScriptError::NotACommand),
     }

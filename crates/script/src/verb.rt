@@ -32,6 +32,7 @@ pub(crate) enum Verb {
     Pwrite,
     Lseek,
     Ftruncate,
+    Fchmod,
     Fstat,
     Fsync,
     Extent,
@@ -46,7 +47,7 @@ pub(crate) enum Verb {
 }
 
 impl Verb {
-    const ALL: [Verb; 37] = [
+    const ALL: [Verb; 38] = [
         Verb::List,
         Verb::Entries,
         Verb::Stat,
@@ -73,6 +74,7 @@ impl Verb {
         Verb::Pwrite,
         Verb::Lseek,
         Verb::Ftruncate,
+        Verb::Fchmod,
         Verb::Fstat,
         Verb::Fsync,
         Verb::Extent,
@@ -162,6 +164,7 @@ impl Verb {
             Verb::Pwrite => b"pwrite",
             Verb::Lseek => b"lseek",
             Verb::Ftruncate => b"ftruncate",
+            Verb::Fchmod => b"fchmod",
             Verb::Fstat => b"fstat",
             Verb::Fsync => b"fsync",
             Verb::Extent => b"extent",

@@ -68,6 +68,9 @@ pub(crate) fn push_command(
         Command::Ftruncate { fd, size } => {
             push_fields(alloc, line, Verb::Ftruncate, &Then(*fd, Then(*size, End)))
         }
+        Command::Fchmod { fd, mode } => {
+            push_fields(alloc, line, Verb::Fchmod, &Then(*fd, Then(*mode, End)))
+        }
         Command::Fstat { fd } => push_fields(alloc, line, Verb::Fstat, &Then(*fd, End)),
         Command::Fsync { fd } => push_fields(alloc, line, Verb::Fsync, &Then(*fd, End)),
         Command::Extent { path, offset } => {

@@ -49,6 +49,7 @@ changes (command.Pread fd offset count) = false
 changes (command.Pwrite fd offset given) = true
 changes (command.Lseek fd whence offset) = false
 changes (command.Ftruncate fd size) = true
+changes (command.Fchmod fd mode) = true
 changes (command.Fstat fd) = false
 changes (command.Fsync fd) = false
 changes (command.Extent path offset) = false

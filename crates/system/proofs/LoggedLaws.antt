@@ -54,12 +54,12 @@ replays_more limits v (d ∷ ds) w c rest applies = (rest.0, replays_more limits
 
 -- and it is spelled behind the others
 abbrev pub replayed_more : {limits : Limits} {bodies : Bodies} {first running : Volume} → RecordLaws → (was : IsReplayed limits bodies first running) → (table : ℕ → Option Description) (change : Change)
-    → IsChange change → Applies limits running change → IsReplayed limits (with_body bodies (change_bytes change)) first (swept table (applied change running))
+    → IsChange limits.has_attributes change → Applies limits running change → IsReplayed limits (with_body bodies (change_bytes change)) first (swept table (applied change running))
 replayed_more {limits} {bodies} {first} {running} records was table change is applies =
     let follows = records.follow limits running was.last table change was.extends applies in
     record {
       changes = was.changes ++ change ∷ [];
-      are = All-push IsChange was.changes change was.are is;
+      are = All-push (IsChange limits.has_attributes) was.changes change was.are is;
       spelled = sym (append_assoc bodies.older bodies.newest (change_bytes change ∷ [])) ∙ ap (λ (l : List (List ℕ)). l ++ change_bytes change ∷ []) was.spelled
           ∙ sym (map-append change_bytes was.changes (change ∷ []));
       last = applied change was.last;
@@ -76,7 +76,7 @@ costs_replayed records limits running last change n extends applies is = is ∙ 
 
 -- a record more is replayed, and its cost is pledged
 abbrev pub lasts_more : (records : RecordLaws) {base : Base} {snapshots : List (Name × Tree)} {pledged : ℕ} {running : Volume} (lasts : Lasts base snapshots pledged running)
-    (table : ℕ → Option Description) (change : Change) → IsChange change → Applies (limits_of base.root.geometry) running change
+    (table : ℕ → Option Description) (change : Change) → IsChange (limits_of base.root.geometry).has_attributes change → Applies (limits_of base.root.geometry) running change
     → (n : ℕ) → n ≡ cost (limits_of base.root.geometry).costs (work_of running change)
     → HasReserve base.root (whole (blocks_of base.disk) base.root) base.volume (lasts.replayed.changes ++ change ∷ []) → Lasts base snapshots (pledged + n) (swept table (applied change running))
 lasts_more records {base} {snapshots} {pledged} {running} lasts table change is applies n costs_it reserved = record {
@@ -91,7 +91,7 @@ lasts_more records {base} {snapshots} {pledged} {running} lasts table change is 
 
 -- a record is in the log while a point is under way: what it may cost is pledged behind the point, too
 pub records_keep : {settled : Base} {snapshots : List (Name × Tree)} {pledged : ℕ} {running : Volume} {old : Meaning} {log : LogEnd} {w : Way} (records : RecordLaws) (lasts : Lasts settled snapshots pledged running)
-    (table : ℕ → Option Description) (change : Change) (is : IsChange change) (applies : Applies (limits_of settled.root.geometry) running change) (n : ℕ) (costs : n ≡ cost (limits_of settled.root.geometry).costs (work_of running change))
+    (table : ℕ → Option Description) (change : Change) (is : IsChange (limits_of settled.root.geometry).has_attributes change) (applies : Applies (limits_of settled.root.geometry) running change) (n : ℕ) (costs : n ≡ cost (limits_of settled.root.geometry).costs (work_of running change))
     (reserved : HasReserve settled.root (whole (blocks_of settled.disk) settled.root) settled.volume (lasts.replayed.changes ++ change ∷ []))
     → IsUnderWay old log lasts w → (now : Meaning) (next : LogEnd) → next.epoch ≡ log.epoch → now.seen.disk ≡ old.seen.disk
     → IsUnderWay now next (lasts_more records lasts table change is applies n costs reserved) (record w { pledged = w.pledged + n })
@@ -129,6 +129,9 @@ module _ (laws : CutLaws) (records : RecordLaws) {m : Meaning} {k : Parts} {tabl
 
   pub applies : Applies (limits_of serves.settled.root.geometry) serves.running change
   applies = subst (λ (g : Sizes). Applies (limits_of g) serves.running change) (sym (sizes serves)) advances.applies
+
+  pub is_change : IsChange (limits_of serves.settled.root.geometry).has_attributes change
+  is_change = subst (λ (g : Sizes). IsChange (limits_of g).has_attributes change) (sym (sizes serves)) advances.is
 
   -- what it costs by the settled root
   pub costs_settled : (n : ℕ) → n ≡ cost (limits_of k.root.geometry).costs (work_of serves.running change) → n ≡ cost (limits_of serves.settled.root.geometry).costs (work_of serves.running change)
@@ -172,7 +175,7 @@ module _ (laws : CutLaws) (records : RecordLaws) {m : Meaning} {k : Parts} {tabl
 
   module _ (n : ℕ) (costs_it : n ≡ cost (limits_of k.root.geometry).costs (work_of serves.running change)) (reserved : Reserved) where
     abbrev lasts_after : Lasts serves.settled serves.snapshots (k.pledged + n) volume_after
-    lasts_after = lasts_more records serves.lasts table change advances.is applies n (costs_settled n costs_it) reserved
+    lasts_after = lasts_more records serves.lasts table change is_change applies n (costs_settled n costs_it) reserved
 
     -- while it is put into the log
     pub at_any_moment : m.sectors ≡ 8 * k.root.geometry.blocks → k.log.half ≡ k.root.geometry.half
@@ -219,7 +222,7 @@ module _ (laws : CutLaws) (records : RecordLaws) {m : Meaning} {k : Parts} {tabl
             | inr coming ↦ inr (record {
               point = coming.point;
               is = coming.is;
-              way = records_keep records serves.lasts table change advances.is applies n (costs_settled n costs_it) reserved coming.way now now_log epoch (sym seen);
+              way = records_keep records serves.lasts table change is_change applies n (costs_settled n costs_it) reserved coming.way now now_log epoch (sym seen);
               sound = coming.sound;
               place = coming.place;
               to_come = subst (λ (d : ℕ → Sector). HasEntriesToCome (whole (blocks_of (disk_after coming.point.plan d)) k.root).active k.map) seen coming.to_come;

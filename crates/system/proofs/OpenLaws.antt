@@ -1,5 +1,5 @@
 -- What is found on a station and read from it makes a system that serves it.
-use Rattle.std.proofs.Common.{◌≡◌, ◌⊎◌, inl, inr, ℕ, zero, suc, ◌≤◌, List, Option, Some, None, false, refl, sym, ap, subst, ◌∙◌}
+use Rattle.std.proofs.Common.{◌≡◌, ◌⊎◌, inl, inr, ℕ, zero, suc, ◌≤◌, List, All, Option, Some, None, false, refl, sym, ap, subst, ◌∙◌}
 use Rattle.std.specs.Prelude.{Result, Ok, Err, IsErrAnd, IsErrOf, IsSome, IsTrue, IsFalse, MatchResult, IfErr}
 use Rattle.std.specs.Option.{option_map}
 use Rattle.layout.specs.StateLimits.{limits_of}
@@ -9,7 +9,7 @@ use Rattle.station.specs.declared.station.Station.{Ghosts}
 use Rattle.layout.specs.Limits.{Sizes}
 use Rattle.layout.specs.Log.{LogHolds}
 use Rattle.layout.specs.Places.{Blocks, blocks_of}
-use Rattle.layout.specs.Record.{Change}
+use Rattle.layout.specs.Record.{Change, IsChange}
 use Rattle.layout.specs.declared.root.Root.{Root}
 use Rattle.model.specs.Paths.{Name}
 use Rattle.model.specs.Records.{Extends, Replays, is_vacant, pledged_for, without_orphans}
@@ -125,7 +125,7 @@ module _ (disk : Blocks) (r : Root) (nvram : List ℕ) (first last : Volume) (sn
     (over : IsSavedOver r saved) (holds : HoldsRecords disk r nvram first last snapshots changes) where
   pub saves : (inodes : InodeFile) → inodes.geometry ≡ r.geometry → SavesRecords (limits_of inodes.geometry) nvram saved changes first last
   saves inodes geometry = record {
-    are = holds.log.are;
+    are = subst (λ (s : Sizes). All (IsChange (limits_of s).has_attributes) changes) (sym geometry) holds.log.are;
     held = saved_log nvram saved r changes over holds.log.log;
     replays = subst (λ (s : Sizes). Replays (limits_of s) first changes last) (sym geometry) holds.replays;
   }
@@ -171,7 +171,7 @@ module _ (disk : Blocks) (r : Root) (nvram : List ℕ) (saved : Saved) (over : I
   pub saves_within : (inodes : InodeFile) → inodes.geometry ≡ r.geometry → (changes : List Change) (log : HasLog r (whole disk r) nvram changes)
       → SavesRecordsIn by_sizes (limits_of inodes.geometry) nvram saved changes log.first log.last
   saves_within inodes geometry changes log = record {
-    are = log.log.are;
+    are = subst (λ (s : Sizes). All (IsChange (limits_of s).has_attributes) changes) (sym geometry) log.log.are;
     held = saved_log nvram saved r changes over log.log.log;
     replays = subst (λ (s : Sizes). ReplaysWithin (limits_of s) log.first changes log.last) (sym geometry) log.replays;
   }
@@ -188,7 +188,7 @@ module _ (disk : Blocks) (r : Root) (nvram : List ℕ) (saved : Saved) (over : I
       last = last;
       holds = holds;
       log = record {
-        are = saves.are;
+        are = subst (λ (s : Sizes). All (IsChange (limits_of s).has_attributes) changes) geometry saves.are;
         log = subst (λ (n : ℕ). LogHolds n r.generation nvram (bodies_of changes)) over.half (subst (λ (n : ℕ). LogHolds saved.half n nvram (bodies_of changes)) over.generation saves.held);
       };
       replays = subst (λ (s : Sizes). ReplaysWithin (limits_of s) first changes last) geometry saves.replays;

@@ -7,7 +7,7 @@ use Rattle.model.specs.declared.limits.Limits.{Limits}
 use Rattle.layout.specs.Limits.{Sizes}
 use Rattle.layout.specs.Places.{blocks_of}
 use Rattle.model.specs.Attributes.{no_attributes}
-use Rattle.model.specs.Records.{Change, Replays, applied, cost_of_all, count_orphans, pledged_for, work_of, create, link, remove_name, rename, write, truncate, change_mode, set_file}
+use Rattle.model.specs.Records.{Change, Edit, Replays, applied, cost_of_all, count_orphans, pledged_for, work_of, create, link, remove_name, rename, write, truncate, change_mode, set_file}
 use Rattle.model.specs.Room.{cost}
 use Rattle.model.specs.States.{State}
 use Rattle.model.specs.Trees.{Description}
@@ -24,7 +24,7 @@ use Rattle.inofile.specs.declared.inode_file.InodeFile.{InodeFile}
 use Rattle.inofile.proofs.RoomLaws.{orphan_four}
 use Rattle.planning.proofs.RoomLaws.{none_first}
 use Rattle.oplog.specs.LogEnd.{LogEnd, HasRoomInHalf, next_of}
-use Rattle.replay.specs.Costs.{IsSizeBefore}
+use Rattle.replay.specs.Costs.{IsSizeBefore, IsSizeBy}
 use Rattle.station.specs.declared.station.Station.{Ghosts}
 use Rattle.system.specs.Images.{Base}
 use Rattle.system.specs.Memory.{HasEntries}
@@ -119,15 +119,18 @@ abbrev pub files_of : ℕ → Volume
 files_of size n = Some (file_node no_attributes 1 (replicate size 0))
 
 -- in it a record's file has this size
+sized_by : (edit : Edit) (size : ℕ) → IsSizeBy (files_of size) edit size
+sized_by (create number parent made name) size = tt
+sized_by (link number parent name) size = tt
+sized_by (remove_name parent name) size = tt
+sized_by (rename parent name new_parent new_name) size = tt
+sized_by (write number offset bytes) size = sym (length-replicate size 0)
+sized_by (truncate number new) size = sym (length-replicate size 0)
+sized_by (change_mode number mode) size = tt
+sized_by (set_file number mode new) size = sym (length-replicate size 0)
+
 pub files_sized : (change : Change) (size : ℕ) → IsSizeBefore (files_of size) change size
-files_sized (create number parent made name) size = tt
-files_sized (link number parent name) size = tt
-files_sized (remove_name parent name) size = tt
-files_sized (rename parent name new_parent new_name) size = tt
-files_sized (write number offset bytes) size = sym (length-replicate size 0)
-files_sized (truncate number new) size = sym (length-replicate size 0)
-files_sized (change_mode number mode) size = tt
-files_sized (set_file number mode new) size = sym (length-replicate size 0)
+files_sized change size = sized_by change.edit size
 
 -- ---- orphans
 

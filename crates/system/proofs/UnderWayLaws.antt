@@ -1,5 +1,5 @@
 -- What a cut leaves of a point under way, and how it goes on.
-use Rattle.std.proofs.Common.{◌≡◌, ◌⊎◌, inl, inr, ℕ, ◌+◌, ◌*◌, ◌<◌, ◌≤◌, ◌^◌, List, append-nil, Option, refl, ap, sym, subst, ◌∙◌, arith}
+use Rattle.std.proofs.Common.{◌≡◌, ◌⊎◌, inl, inr, ℕ, ◌+◌, ◌*◌, ◌<◌, ◌≤◌, ◌^◌, List, All, append-nil, Option, refl, ap, sym, subst, ◌∙◌, arith}
 use Rattle.station.specs.Images.{Images, Sector}
 use Rattle.station.specs.Moments.{Meaning, MayLeave, EachCut, After, Goes, IsSameStation, IsSector, LeavesJust, LeavesOnly}
 use Rattle.station.proofs.Moments.{goes_on, started, weaker}
@@ -9,6 +9,7 @@ use Rattle.layout.specs.Places.{blocks_of}
 use Rattle.layout.specs.Root.{root_bytes}
 use Rattle.layout.specs.declared.root.Root.{Root}
 use Rattle.model.specs.Paths.{Name}
+use Rattle.layout.specs.Record.{IsChange}
 use Rattle.model.specs.Records.{Replays, count_orphans, pledged_for}
 use Rattle.layout.specs.StateLimits.{fixed_of, limits_of}
 use Rattle.model.specs.States.{State}
@@ -170,7 +171,7 @@ module _ (laws : CutLaws) {m : Meaning} {log : LogEnd} {settled : Base} {snapsho
           (laws.opens m.sectors settled.disk c.disk m.seen.nvram s (writes_of w.plan.blocks) w.plan.slot w.root w.volume unchanged way.since.changes way.since.last opens way.planned.point
           (with_root c (rooted c has))
           (record {
-            are = way.since.are;
+            are = subst (λ (g : Sizes). All (IsChange (limits_of g).has_attributes) way.since.changes) (sym way.planned.point.geometry) way.since.are;
             log = subst (LogHolds w.root.geometry.half w.root.generation m.seen.nvram) way.since.spelled
                 (subst (λ (h : ℕ). LogHolds h w.root.generation m.seen.nvram lasts.bodies.newest) (are.half ∙ ap (λ (g : Sizes). g.half) (sym way.planned.point.geometry)) log_then.holds);
           })
@@ -218,7 +219,7 @@ module _ (laws : CutLaws) {m : Meaning} {log : LogEnd} {settled : Base} {snapsho
         bodies = newest_of lasts.bodies;
         replayed = record {
           changes = way.since.changes;
-          are = way.since.are;
+          are = subst (λ (g : Sizes). All (IsChange (limits_of g).has_attributes) way.since.changes) (sym way.planned.point.geometry) way.since.are;
           spelled = way.since.spelled;
           last = way.since.last;
           replays = subst (λ (g : Sizes). Replays (limits_of g) w.volume way.since.changes way.since.last) (sym way.planned.point.geometry) way.since.replays;

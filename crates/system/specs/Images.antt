@@ -42,7 +42,7 @@ pub record IsLeft (root : Root) (log : LogEnd) (bodies : Bodies) (disk : ℕ →
 -- orphans, which the running one may have dropped, are there still.
 pub record IsReplayed (limits : Limits) (bodies : Bodies) (first running : Volume) : Type 0 where
   pub changes : List Change
-  pub are : All IsChange changes
+  pub are : All (IsChange limits.has_attributes) changes
   pub spelled : all_bodies bodies ≡ map change_bytes changes
   pub last : Volume
   pub replays : Replays limits first changes last

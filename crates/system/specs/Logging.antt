@@ -33,7 +33,7 @@ use Rattle.system.specs.declared.system.System.{System}
 -- the files are dropped that it leaves with neither name nor descriptor
 pub record Advances (limits : Limits) (running : Volume) (table : ℕ → Option Description)
     (change : Change) : Type 0 where
-  pub is : IsChange change
+  pub is : IsChange limits.has_attributes change
   pub applies : Applies limits running change
   pub mounted : IsMounted (swept table (applied change running)) table
 

@@ -2,7 +2,9 @@
 
 ghost use Rattle.std.specs.Prelude.{◌≡◌, ◌+◌, ◌*◌, ◌≤◌, ◌^◌};
 ghost use Rattle.layout.specs.Root.{IsRoot};
+ghost use Rattle.layout.specs.StateLimits.{limits_of};
 ghost use Rattle.blockmap.specs.Maps.{free_below};
+ghost use Rattle.model.specs.States.{time_under};
 ghost use Rattle.oplog.specs.LogEnd.{next_of};
 ghost use Rattle.records.specs.Opened.{HasNumbers};
 ghost use Rattle.replay.specs.declared.costs.TheConstants.{MOST_COST};
@@ -13,6 +15,7 @@ use blockmap::BlockMap;
 use descriptors::Descriptors;
 use inofile::InodeFile;
 use layout::Root;
+use model::Time;
 use oplog::Log;
 use overlay::Overlay;
 use station::Station;
@@ -58,6 +61,18 @@ impl<S: Station> System<S> {
         ensures { result.now ≡ self.now.blocks.buffers.station }
     {
         &self.blocks.buffers.station
+    }
+
+    /// The time of a call, where objects have times: always the Epoch, as no call says another one
+    /// yet.
+    pub fn now(&self) -> Option<Time>
+        ensures { result ≡ time_under (limits_of self.now.root.geometry) }
+    {
+        if self.root.geometry.limits().has_attributes {
+            Some(Time::epoch())
+        } else {
+            None
+        }
     }
 
     /// The station as it stands, with no device call.

@@ -1,5 +1,7 @@
 //! Changing a mode over a path.
 
+ghost use Rattle.layout.specs.StateLimits.{limits_of};
+ghost use Rattle.model.specs.Attributes.{KeepsTime};
 ghost use Rattle.model.specs.Changing.{changes_mode};
 ghost use Rattle.model.specs.Volumes.{tree_of};
 ghost use Rattle.calls.specs.Changing.{Comes};
@@ -9,7 +11,7 @@ use crate::leading::lead;
 use crate::{Changing, OwnedChange};
 use buffers::Blocks;
 use inofile::InodeFile;
-use model::{Mode, records_change_trees};
+use model::{Mode, Time, records_change_trees};
 use records::{Failure, prepare_mode};
 use std::alloc::Global;
 
@@ -21,17 +23,21 @@ pub fn change_mode<B: Blocks>(
     alloc: Global,
     inodes: &mut InodeFile,
     blocks: &mut B,
+    now: Option<Time>,
     path: &[u8],
     mode: Mode,
 ) -> Result<Changing, Failure>
-    ensures { Prepares B.Blocks blocks.old blocks.new inodes.old inodes.new
-        (λ limits v table. Comes (changes_mode limits (tree_of v table) path.now mode) limits v
+    requires now { KeepsTime (limits_of inodes.old.geometry).has_attributes now }
+    ensures { Prepares now B.Blocks blocks.old blocks.new inodes.old inodes.new
+        (λ limits v table. Comes (changes_mode limits now (tree_of v table) path.now mode) limits v
         table) result }
 {
     records_change_trees();
     let number = lead(alloc, inodes, blocks, path, true)?;
-    let prepared = prepare_mode(alloc, inodes, blocks, number, mode)?;
+    let time = now;
+    let prepared = prepare_mode(alloc, inodes, blocks, now, number, mode)?;
     Ok(Changing {
+        time,
         change: OwnedChange::ChangeMode { number, mode },
         prepared,
     })

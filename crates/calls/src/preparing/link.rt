@@ -2,9 +2,10 @@
 
 ghost use Rattle.std.specs.Prelude.{◌≡◌, ◌++◌, None, Ok, false};
 ghost use Rattle.layout.specs.StateLimits.{limits_of};
+ghost use Rattle.model.specs.Attributes.{KeepsTime};
 ghost use Rattle.model.specs.Changing.{links};
 ghost use Rattle.model.specs.Paths.{first_refusal, new_text_tests, text_tests, parts as parts_of};
-ghost use Rattle.model.specs.Records.{link};
+ghost use Rattle.model.specs.Records.{link, stamped};
 ghost use Rattle.model.specs.Volumes.{tree_of};
 ghost use Rattle.paths.specs.Steps.{found_in};
 ghost use Rattle.paths.specs.declared.lookup.Found.TheVariants as found;
@@ -18,7 +19,7 @@ use crate::{Changing, EntryName, OwnedChange};
 use buffers::Blocks;
 use inofile::InodeFile;
 use layout::InodeNumber;
-use model::{Errno, records_change_trees, volumes_are_trees, volumes_tell_links};
+use model::{Errno, Time, records_change_trees, volumes_are_trees, volumes_tell_links};
 use paths::{Found, Parts, Place, resolve_place};
 use records::{Failure, kind_at, prepare_link};
 use std::alloc::Global;
@@ -31,12 +32,14 @@ pub fn link<B: Blocks>(
     alloc: Global,
     inodes: &mut InodeFile,
     blocks: &mut B,
+    now: Option<Time>,
     old: &[u8],
     path: &[u8],
 ) -> Result<Changing, Failure>
-    ensures { Prepares B.Blocks blocks.old blocks.new inodes.old inodes.new
-        (λ limits v table. Comes (links limits (tree_of v table) old.now path.now) limits v table)
-        result }
+    requires now { KeepsTime (limits_of inodes.old.geometry).has_attributes now }
+    ensures { Prepares now B.Blocks blocks.old blocks.new inodes.old inodes.new
+        (λ limits v table. Comes (links limits now (tree_of v table) old.now path.now) limits v
+        table) result }
 {
     let from = Parts::of(alloc, old)?;
     if let Some(errno) = refusal_of_path(inodes, old, &from) {
@@ -46,53 +49,59 @@ pub fn link<B: Blocks>(
     if let Some(errno) = refusal_of_new_path(inodes, path, &parts) {
         return Err(Failure::Refused(errno));
     }
-    link_along(alloc, inodes, blocks, old, path, from, parts)
+    link_along(alloc, inodes, blocks, now, old, path, from, parts)
 }
 
 // The same with texts that passed their tests, and their parts.
+#[allow(clippy::too_many_arguments)]
 fn link_along<B: Blocks>(
     alloc: Global,
     inodes: &mut InodeFile,
     blocks: &mut B,
+    now: Option<Time>,
     old: &[u8],
     path: &[u8],
     from: Parts,
     parts: Parts,
 ) -> Result<Changing, Failure>
+    requires now { KeepsTime (limits_of inodes.old.geometry).has_attributes now }
     requires from { from ≡ parts_of old.now }
     requires parts { parts ≡ parts_of path.now }
     requires passed { first_refusal (text_tests (limits_of inodes.old.geometry) old.now
         ++ new_text_tests (limits_of inodes.old.geometry) path.now) ≡ None }
-    ensures { Prepares B.Blocks blocks.old blocks.new inodes.old inodes.new
-        (λ limits v table. Comes (links limits (tree_of v table) old.now path.now) limits v table)
-        result }
+    ensures { Prepares now B.Blocks blocks.old blocks.new inodes.old inodes.new
+        (λ limits v table. Comes (links limits now (tree_of v table) old.now path.now) limits v
+        table) result }
 {
     volumes_are_trees();
     let number = find_object(alloc, inodes, blocks, old, from, false)?;
     let found = kind_at(alloc, inodes, blocks, number)?;
     match found {
-        Found::File => link_file(alloc, inodes, blocks, old, path, parts, number),
+        Found::File => link_file(alloc, inodes, blocks, now, old, path, parts, number),
         _ => Err(Failure::Refused(Errno::EPERM)),
     }
 }
 
 // Gives the file with a number one name more where a path leads.
+#[allow(clippy::too_many_arguments)]
 fn link_file<B: Blocks>(
     alloc: Global,
     inodes: &mut InodeFile,
     blocks: &mut B,
+    now: Option<Time>,
     old: &[u8],
     path: &[u8],
     parts: Parts,
     number: InodeNumber,
 ) -> Result<Changing, Failure>
+    requires now { KeepsTime (limits_of inodes.old.geometry).has_attributes now }
     requires parts { parts ≡ parts_of path.now }
     requires passed { first_refusal (text_tests (limits_of inodes.old.geometry) old.now
         ++ new_text_tests (limits_of inodes.old.geometry) path.now) ≡ None }
-    ensures { Prepares B.Blocks blocks.old blocks.new inodes.old inodes.new
+    ensures { Prepares now B.Blocks blocks.old blocks.new inodes.old inodes.new
         (λ limits v table r. found_in (v number) ≡ found.File → LeadsAlong (tree_of v table)
-        v false old.now (Ok number) → Comes (links limits (tree_of v table) old.now path.now) limits
-        v table r) result }
+        v false old.now (Ok number) → Comes (links limits now (tree_of v table) old.now path.now)
+        limits v table r) result }
 {
     volumes_are_trees();
     volumes_tell_links();
@@ -100,7 +109,7 @@ fn link_file<B: Blocks>(
     let place = resolve_place(alloc, inodes, blocks, path, parts, false)?;
     match place {
         Place::Missing { trail, name } => {
-            return link_in(alloc, inodes, blocks, trail.here(), name, number);
+            return link_in(alloc, inodes, blocks, now, trail.here(), name, number);
         }
         Place::Refusal(errno) => return Err(Failure::Refused(errno)),
         Place::Directory(_trail) => return Err(Failure::Refused(Errno::EEXIST)),
@@ -117,18 +126,22 @@ fn link_in<B: Blocks>(
     alloc: Global,
     inodes: &mut InodeFile,
     blocks: &mut B,
+    now: Option<Time>,
     parent: InodeNumber,
     name: Vec<u8>,
     number: InodeNumber,
 ) -> Result<Changing, Failure>
-    ensures { Prepares B.Blocks blocks.old blocks.new inodes.old inodes.new
-        (λ limits v table. Decides limits v (link number parent name.items)) result }
+    requires now { KeepsTime (limits_of inodes.old.geometry).has_attributes now }
+    ensures { Prepares now B.Blocks blocks.old blocks.new inodes.old inodes.new
+        (λ limits v table. Decides limits v (stamped now (link number parent name.items))) result }
 {
     let Some(name) = EntryName::new(name) else {
         return Err(Failure::Refused(Errno::ENAMETOOLONG));
     };
-    let prepared = prepare_link(alloc, inodes, blocks, number, parent, &name.bytes)?;
+    let time = now;
+    let prepared = prepare_link(alloc, inodes, blocks, now, number, parent, &name.bytes)?;
     Ok(Changing {
+        time,
         change: OwnedChange::Link {
             number,
             parent,

@@ -1,5 +1,7 @@
 //! Making a directory over a path.
 
+ghost use Rattle.layout.specs.StateLimits.{limits_of};
+ghost use Rattle.model.specs.Attributes.{KeepsTime};
 ghost use Rattle.model.specs.Changing.{makes_directory};
 ghost use Rattle.model.specs.Volumes.{tree_of};
 ghost use Rattle.calls.specs.Changing.{Comes};
@@ -9,7 +11,7 @@ use crate::making::make;
 use crate::{Changing, OwnedObject};
 use buffers::Blocks;
 use inofile::InodeFile;
-use model::Mode;
+use model::{Mode, Time};
 use records::Failure;
 use std::alloc::Global;
 
@@ -20,12 +22,21 @@ pub fn make_directory<B: Blocks>(
     alloc: Global,
     inodes: &mut InodeFile,
     blocks: &mut B,
+    now: Option<Time>,
     path: &[u8],
     mode: Mode,
 ) -> Result<Changing, Failure>
-    ensures { Prepares B.Blocks blocks.old blocks.new inodes.old inodes.new
-        (λ limits v table. Comes (makes_directory limits (tree_of v table) path.now mode) limits v
-        table) result }
+    requires now { KeepsTime (limits_of inodes.old.geometry).has_attributes now }
+    ensures { Prepares now B.Blocks blocks.old blocks.new inodes.old inodes.new
+        (λ limits v table. Comes (makes_directory limits now (tree_of v table) path.now mode) limits
+        v table) result }
 {
-    make(alloc, inodes, blocks, path, OwnedObject::Directory { mode })
+    make(
+        alloc,
+        inodes,
+        blocks,
+        now,
+        path,
+        OwnedObject::Directory { mode },
+    )
 }

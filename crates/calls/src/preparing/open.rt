@@ -2,6 +2,7 @@
 
 ghost use Rattle.std.specs.Prelude.{◌≡◌, ◌≢◌, ◌<◌, ◌&&◌, IfOk, IsTrue, None, Some, not};
 ghost use Rattle.layout.specs.StateLimits.{limits_of};
+ghost use Rattle.model.specs.Attributes.{KeepsTime};
 ghost use Rattle.model.specs.Descriptors.{opens_object};
 ghost use Rattle.model.specs.Paths.{first_refusal, parts as parts_of, text_tests};
 ghost use Rattle.model.specs.Trees as trees;
@@ -18,8 +19,8 @@ use buffers::Blocks;
 use inofile::InodeFile;
 use layout::InodeNumber;
 use model::{
-    Errno, FileType, Flags, Mode, records_change_trees, records_keep_volumes, sweeps_keep_volumes,
-    volumes_are_trees, volumes_tell_fresh_numbers, volumes_tell_links,
+    Errno, FileType, Flags, Mode, Time, records_change_trees, records_keep_volumes,
+    sweeps_keep_volumes, volumes_are_trees, volumes_tell_fresh_numbers, volumes_tell_links,
 };
 use paths::{Parts, Place, Target, resolve};
 use records::Failure;
@@ -45,21 +46,24 @@ pub struct Opened {
 /// flags say so. Or tells why the call is refused. A last symbolic link is followed, but not where
 /// a new file is wanted. NoMemory; Device where a read failed; Damaged where a block on the way is
 /// outside its format, or where a number that is free has an object.
+#[allow(clippy::too_many_arguments)]
 pub fn open_along<B: Blocks>(
     alloc: Global,
     inodes: &mut InodeFile,
     blocks: &mut B,
+    now: Option<Time>,
     path: &[u8],
     parts: Parts,
     flags: Flags,
     mode: Mode,
 ) -> Result<Opened, Failure>
+    requires now { KeepsTime (limits_of inodes.old.geometry).has_attributes now }
     requires parts { parts ≡ parts_of path.now }
     requires passed { first_refusal (text_tests (limits_of inodes.old.geometry) path.now) ≡ None }
     ensures within { IfOk result (KeepsOpenedBounds inodes.old.geometry.inodes) }
-    ensures opens { PreparesOpening B.Blocks blocks.old blocks.new inodes.old inodes.new
-        (λ limits v table. OpensAt (opens_along limits (tree_of v table) path.now flags mode) limits
-        flags v table) result }
+    ensures opens { PreparesOpening now B.Blocks blocks.old blocks.new inodes.old inodes.new
+        (λ limits v table. OpensAt (opens_along limits now (tree_of v table) path.now flags mode)
+        limits flags v table) result }
 {
     volumes_are_trees();
     volumes_tell_fresh_numbers();
@@ -70,20 +74,20 @@ pub fn open_along<B: Blocks>(
     let follow = !wants_new(flags);
     let target = resolve(alloc, inodes, blocks, path, parts, follow)?;
     let place = match target {
-        Target::Object(number) => return open_object(alloc, inodes, blocks, number, flags),
+        Target::Object(number) => return open_object(alloc, inodes, blocks, now, number, flags),
         Target::Place(place) => place,
     };
     match place {
         Place::Missing { trail, name } => {
-            open_new(alloc, inodes, blocks, trail.here(), name, flags, mode)
+            open_new(alloc, inodes, blocks, now, trail.here(), name, flags, mode)
         }
         Place::Refusal(errno) => Err(Failure::Refused(errno)),
-        Place::Directory(trail) => open_object(alloc, inodes, blocks, trail.here(), flags),
+        Place::Directory(trail) => open_object(alloc, inodes, blocks, now, trail.here(), flags),
         Place::Entry {
             trail: _trail,
             name: _name,
             number,
-        } => open_object(alloc, inodes, blocks, number, flags),
+        } => open_object(alloc, inodes, blocks, now, number, flags),
     }
 }
 
@@ -100,15 +104,17 @@ fn open_object<B: Blocks>(
     alloc: Global,
     inodes: &mut InodeFile,
     blocks: &mut B,
+    now: Option<Time>,
     number: InodeNumber,
     flags: Flags,
 ) -> Result<Opened, Failure>
+    requires now { KeepsTime (limits_of inodes.old.geometry).has_attributes now }
     requires number { IsInodeNumber inodes.old.geometry.inodes number }
     ensures within { IfOk result (KeepsOpenedBounds inodes.old.geometry.inodes) }
-    ensures opens { PreparesOpening B.Blocks blocks.old blocks.new inodes.old inodes.new
+    ensures opens { PreparesOpening now B.Blocks blocks.old blocks.new inodes.old inodes.new
         (λ limits v table r. (o : trees.Object) → object_of number (v number) ≡ Some o → (IsTrue
         (not (flags.creates && flags.exclusive)) → found_in (v number) ≢ found.Link) → OpensAt
-        (λ tells. opens_object tells (tree_of v table) o flags) limits flags v table r) result }
+        (λ tells. opens_object tells now (tree_of v table) o flags) limits flags v table r) result }
 {
     volumes_tell_links();
     records_keep_volumes();
@@ -128,7 +134,7 @@ fn open_object<B: Blocks>(
             changing: None,
         });
     }
-    let changing = truncate_file(alloc, inodes, blocks, number, 0)?;
+    let changing = truncate_file(alloc, inodes, blocks, now, number, 0)?;
     Ok(Opened {
         number,
         size: 0,
@@ -139,24 +145,27 @@ fn open_object<B: Blocks>(
 }
 
 // Makes a file at a name that its parent doesn't have; ENOENT where none is to be made.
+#[allow(clippy::too_many_arguments)]
 fn open_new<B: Blocks>(
     alloc: Global,
     inodes: &mut InodeFile,
     blocks: &mut B,
+    now: Option<Time>,
     parent: InodeNumber,
     name: Vec<u8>,
     flags: Flags,
     mode: Mode,
 ) -> Result<Opened, Failure>
+    requires now { KeepsTime (limits_of inodes.old.geometry).has_attributes now }
     ensures within { IfOk result (KeepsOpenedBounds inodes.old.geometry.inodes) }
-    ensures opens { PreparesOpening B.Blocks blocks.old blocks.new inodes.old inodes.new
-        (λ limits v table. OpensNew limits v flags mode parent name.items) result }
+    ensures opens { PreparesOpening now B.Blocks blocks.old blocks.new inodes.old inodes.new
+        (λ limits v table. OpensNew limits now v flags mode parent name.items) result }
 {
     if !flags.creates {
         return Err(Failure::Refused(Errno::ENOENT));
     }
     let object = OwnedObject::File { mode };
-    let changing = make_in(alloc, inodes, blocks, parent, name, object)?;
+    let changing = make_in(alloc, inodes, blocks, now, parent, name, object)?;
     let Some(number) = changing.change.number_made() else {
         unreachable!()
     };

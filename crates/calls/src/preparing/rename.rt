@@ -2,6 +2,7 @@
 
 ghost use Rattle.std.specs.Prelude.{◌≡◌, ◌↔◌, false, IfOk, IfSome, IsTrue, Some};
 ghost use Rattle.layout.specs.StateLimits.{limits_of};
+ghost use Rattle.model.specs.Attributes.{KeepsTime};
 ghost use Rattle.model.specs.Changing.{renames};
 ghost use Rattle.model.specs.Finding.{IsPlaceAt, at_entry, here};
 ghost use Rattle.model.specs.Paths.{Name, parts as parts_of};
@@ -24,7 +25,7 @@ use buffers::{BlockError, Blocks};
 use inofile::InodeFile;
 use layout::InodeNumber;
 use model::{
-    Errno, numbers_tell_what_lies_below, records_change_trees, trails_tell_what_lies_below,
+    Errno, Time, numbers_tell_what_lies_below, records_change_trees, trails_tell_what_lies_below,
     volumes_are_trees,
 };
 use paths::{Parts, Place, Trail, resolve_place};
@@ -41,13 +42,15 @@ pub fn rename<B: Blocks>(
     alloc: Global,
     inodes: &mut InodeFile,
     blocks: &mut B,
+    now: Option<Time>,
     old: &[u8],
     path: &[u8],
     only_new: bool,
 ) -> Result<Option<Changing>, Failure>
-    ensures { PreparesAny B.Blocks blocks.old blocks.new inodes.old inodes.new
-        (λ limits v table. ComesOrStays (renames limits (tree_of v table) only_new old.now path.now)
-        limits v table) result }
+    requires now { KeepsTime (limits_of inodes.old.geometry).has_attributes now }
+    ensures { PreparesAny now B.Blocks blocks.old blocks.new inodes.old inodes.new
+        (λ limits v table. ComesOrStays (renames limits now (tree_of v table) only_new old.now
+        path.now) limits v table) result }
 {
     let from = Parts::of(alloc, old)?;
     if let Some(errno) = refusal_of_new_path(inodes, old, &from) {
@@ -62,7 +65,7 @@ pub fn rename<B: Blocks>(
     if from_root || to_root {
         return Err(Failure::Refused(Errno::EBUSY));
     }
-    rename_along(alloc, inodes, blocks, old, path, from, to, only_new)
+    rename_along(alloc, inodes, blocks, now, old, path, from, to, only_new)
 }
 
 // The same with texts that passed their tests, and their parts.
@@ -71,18 +74,20 @@ fn rename_along<B: Blocks>(
     alloc: Global,
     inodes: &mut InodeFile,
     blocks: &mut B,
+    now: Option<Time>,
     old: &[u8],
     path: &[u8],
     from: Parts,
     to: Parts,
     only_new: bool,
 ) -> Result<Option<Changing>, Failure>
+    requires now { KeepsTime (limits_of inodes.old.geometry).has_attributes now }
     requires from { from ≡ parts_of old.now }
     requires to { to ≡ parts_of path.now }
     requires passed { PassTests (limits_of inodes.old.geometry) old.now path.now }
-    ensures { PreparesAny B.Blocks blocks.old blocks.new inodes.old inodes.new
-        (λ limits v table. ComesOrStays (renames limits (tree_of v table) only_new old.now path.now)
-        limits v table) result }
+    ensures { PreparesAny now B.Blocks blocks.old blocks.new inodes.old inodes.new
+        (λ limits v table. ComesOrStays (renames limits now (tree_of v table) only_new old.now
+        path.now) limits v table) result }
 {
     volumes_are_trees();
     let place = resolve_place(alloc, inodes, blocks, old, from, false)?;
@@ -93,7 +98,7 @@ fn rename_along<B: Blocks>(
             number,
         } => {
             return rename_found(
-                alloc, inodes, blocks, old, path, to, only_new, trail, name, number,
+                alloc, inodes, blocks, now, old, path, to, only_new, trail, name, number,
             );
         }
         // Only the path `/`, which doesn't come here, has no name at its end.
@@ -113,6 +118,7 @@ fn rename_found<B: Blocks>(
     alloc: Global,
     inodes: &mut InodeFile,
     blocks: &mut B,
+    now: Option<Time>,
     old: &[u8],
     path: &[u8],
     to: Parts,
@@ -121,16 +127,17 @@ fn rename_found<B: Blocks>(
     name: Vec<u8>,
     number: InodeNumber,
 ) -> Result<Option<Changing>, Failure>
+    requires now { KeepsTime (limits_of inodes.old.geometry).has_attributes now }
     requires to { to ≡ parts_of path.now }
     requires passed { PassTests (limits_of inodes.old.geometry) old.now path.now }
     requires within { AreInodeNumbers inodes.old.geometry.inodes trail }
     requires number { IsInodeNumber inodes.old.geometry.inodes number }
-    ensures { PreparesKnowing (λ v. entries v (here trail) name.items ≡ Some number)
+    ensures { PreparesKnowing (λ v. entries v (here trail) name.items ≡ Some number) now
         B.Blocks blocks.old blocks.new inodes.old inodes.new
         (λ limits v table r. (from : Resolution) → Reaches (tree_of v table) false old.now from
         → IsPlaceAt v (at_entry trail name.items number) from
-        → ComesOrStays (renames limits (tree_of v table) only_new old.now path.now) limits v table
-        r) result }
+        → ComesOrStays (renames limits now (tree_of v table) only_new old.now path.now) limits v
+        table r) result }
 {
     volumes_are_trees();
     records_change_trees();
@@ -153,7 +160,7 @@ fn rename_found<B: Blocks>(
             }
             let target = Some(other);
             return move_name(
-                alloc, inodes, blocks, parent, name, number, rooted, above, new_name, target,
+                alloc, inodes, blocks, now, parent, name, number, rooted, above, new_name, target,
             );
         }
         Place::Missing {
@@ -161,7 +168,7 @@ fn rename_found<B: Blocks>(
             name: new_name,
         } => {
             return move_name(
-                alloc, inodes, blocks, parent, name, number, rooted, above, new_name, None,
+                alloc, inodes, blocks, now, parent, name, number, rooted, above, new_name, None,
             );
         }
         Place::Directory(_trail) => return Err(Failure::Refused(Errno::EBUSY)),
@@ -177,6 +184,7 @@ fn move_name<B: Blocks>(
     alloc: Global,
     inodes: &mut InodeFile,
     blocks: &mut B,
+    now: Option<Time>,
     parent: InodeNumber,
     name: Vec<u8>,
     number: InodeNumber,
@@ -185,15 +193,16 @@ fn move_name<B: Blocks>(
     new_name: Vec<u8>,
     target: Option<InodeNumber>,
 ) -> Result<Option<Changing>, Failure>
+    requires now { KeepsTime (limits_of inodes.old.geometry).has_attributes now }
     requires parent { IsInodeNumber inodes.old.geometry.inodes parent }
     requires number { IsInodeNumber inodes.old.geometry.inodes number }
     requires within { AreInodeNumbers inodes.old.geometry.inodes trail }
     requires target { IfSome target (IsInodeNumber inodes.old.geometry.inodes) }
     ensures { PreparesKnowing
-        (λ v. MovesOver v parent name.items number (here trail) new_name.items target)
+        (λ v. MovesOver v parent name.items number (here trail) new_name.items target) now
         B.Blocks blocks.old blocks.new inodes.old inodes.new
         (λ limits v table r. MovesAlong v number rooted trail new_name.items
-        → MovesName limits v parent name.items (here trail) new_name.items r) result }
+        → MovesName limits now v parent name.items (here trail) new_name.items r) result }
 {
     let new_parent = trail.here();
     let below = comes_below(alloc, inodes, blocks, parent, number, rooted, &trail)?;
@@ -201,7 +210,7 @@ fn move_name<B: Blocks>(
         return Err(Failure::Refused(Errno::EINVAL));
     }
     record_move(
-        alloc, inodes, blocks, parent, name, number, new_parent, new_name, target,
+        alloc, inodes, blocks, now, parent, name, number, new_parent, new_name, target,
     )
 }
 
@@ -240,6 +249,7 @@ fn record_move<B: Blocks>(
     alloc: Global,
     inodes: &mut InodeFile,
     blocks: &mut B,
+    now: Option<Time>,
     parent: InodeNumber,
     name: Vec<u8>,
     number: InodeNumber,
@@ -247,15 +257,16 @@ fn record_move<B: Blocks>(
     new_name: Vec<u8>,
     target: Option<InodeNumber>,
 ) -> Result<Option<Changing>, Failure>
+    requires now { KeepsTime (limits_of inodes.old.geometry).has_attributes now }
     requires parent { IsInodeNumber inodes.old.geometry.inodes parent }
     requires number { IsInodeNumber inodes.old.geometry.inodes number }
     requires new_parent { IsInodeNumber inodes.old.geometry.inodes new_parent }
     requires target { IfSome target (IsInodeNumber inodes.old.geometry.inodes) }
     ensures { PreparesKnowing
-        (λ v. MovesOver v parent name.items number new_parent new_name.items target)
+        (λ v. MovesOver v parent name.items number new_parent new_name.items target) now
         B.Blocks blocks.old blocks.new inodes.old inodes.new
         (λ limits v table r. (IsBelow (entries v) number new_parent → ⊥)
-        → MovesName limits v parent name.items new_parent new_name.items r) result }
+        → MovesName limits now v parent name.items new_parent new_name.items r) result }
 {
     let Some(name) = EntryName::new(name) else {
         return Err(Failure::Refused(Errno::ENOENT));
@@ -263,10 +274,12 @@ fn record_move<B: Blocks>(
     let Some(new_name) = EntryName::new(new_name) else {
         return Err(Failure::Refused(Errno::ENAMETOOLONG));
     };
+    let time = now;
     let prepared = prepare_move(
         alloc,
         inodes,
         blocks,
+        now,
         parent,
         &name.bytes,
         number,
@@ -276,6 +289,7 @@ fn record_move<B: Blocks>(
     )?;
     inodes.note_move(number.get(), new_parent.get(), &new_name.bytes);
     Ok(Some(Changing {
+        time,
         change: OwnedChange::Rename {
             parent,
             name,

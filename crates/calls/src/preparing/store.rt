@@ -2,6 +2,7 @@
 
 ghost use Rattle.std.specs.Prelude.{◌≡◌, ◌≤◌, IsTrue, None, length};
 ghost use Rattle.layout.specs.StateLimits.{limits_of};
+ghost use Rattle.model.specs.Attributes.{KeepsTime};
 ghost use Rattle.model.specs.Descriptors.{stores};
 ghost use Rattle.model.specs.Paths.{first_refusal, parts as parts_of, text_tests_then};
 ghost use Rattle.model.specs.Volumes.{is_file_node, tree_of};
@@ -15,7 +16,7 @@ use crate::texts::refusal_of_path;
 use buffers::Blocks;
 use inofile::InodeFile;
 use layout::InodeNumber;
-use model::Errno;
+use model::{Errno, Time};
 use paths::{Found, Parts};
 use records::{Failure, Prepared, kind_at, write_bytes};
 use std::alloc::Global;
@@ -40,13 +41,15 @@ pub fn store<B: Blocks>(
     alloc: Global,
     inodes: &mut InodeFile,
     blocks: &mut B,
+    now: Option<Time>,
     path: &[u8],
     offset: i64,
     bytes: &[u8],
 ) -> Result<Option<Storing>, Failure>
-    ensures { PreparesStoring bytes.now B.Blocks blocks.old blocks.new inodes.old inodes.new
-        (λ limits v table. StoresFile (stores limits (tree_of v table) path.now offset bytes.now)
-        limits v table bytes.now) result }
+    requires now { KeepsTime (limits_of inodes.old.geometry).has_attributes now }
+    ensures { PreparesStoring now bytes.now B.Blocks blocks.old blocks.new inodes.old inodes.new
+        (λ limits v table. StoresFile (stores limits now (tree_of v table) path.now offset
+        bytes.now) limits now v table bytes.now) result }
 {
     let parts = Parts::of(alloc, path)?;
     if let Some(errno) = refusal_of_path(inodes, path, &parts) {
@@ -55,31 +58,42 @@ pub fn store<B: Blocks>(
     if is_no_range(offset, bytes.len()) {
         return Err(Failure::Refused(Errno::EINVAL));
     }
-    store_along(alloc, inodes, blocks, path, parts, offset, bytes)
+    store_along(alloc, inodes, blocks, now, path, parts, offset, bytes)
 }
 
 // The same with what passed its tests, and the text's parts; EISDIR where it leads to no file.
+#[allow(clippy::too_many_arguments)]
 fn store_along<B: Blocks>(
     alloc: Global,
     inodes: &mut InodeFile,
     blocks: &mut B,
+    now: Option<Time>,
     path: &[u8],
     parts: Parts,
     offset: i64,
     bytes: &[u8],
 ) -> Result<Option<Storing>, Failure>
+    requires now { KeepsTime (limits_of inodes.old.geometry).has_attributes now }
     requires parts { parts ≡ parts_of path.now }
     requires passed { first_refusal (text_tests_then (limits_of inodes.old.geometry) (range_tests
         offset (length bytes.now)) path.now) ≡ None }
     requires few { length bytes.now ≤ TRANSFER_BYTES }
-    ensures { PreparesStoring bytes.now B.Blocks blocks.old blocks.new inodes.old inodes.new
-        (λ limits v table. StoresFile (stores limits (tree_of v table) path.now offset bytes.now)
-        limits v table bytes.now) result }
+    ensures { PreparesStoring now bytes.now B.Blocks blocks.old blocks.new inodes.old inodes.new
+        (λ limits v table. StoresFile (stores limits now (tree_of v table) path.now offset
+        bytes.now) limits now v table bytes.now) result }
 {
     let number = find_object(alloc, inodes, blocks, path, parts, true)?;
     let found = kind_at(alloc, inodes, blocks, number)?;
     match found {
-        Found::File => put_bytes(alloc, inodes, blocks, number, offset.unsigned_abs(), bytes),
+        Found::File => put_bytes(
+            alloc,
+            inodes,
+            blocks,
+            now,
+            number,
+            offset.unsigned_abs(),
+            bytes,
+        ),
         _ => Err(Failure::Refused(Errno::EISDIR)),
     }
 }
@@ -89,17 +103,19 @@ fn put_bytes<B: Blocks>(
     alloc: Global,
     inodes: &mut InodeFile,
     blocks: &mut B,
+    now: Option<Time>,
     number: InodeNumber,
     offset: u64,
     bytes: &[u8],
 ) -> Result<Option<Storing>, Failure>
-    requires { length bytes.now ≤ TRANSFER_BYTES }
-    ensures { PreparesStoring bytes.now B.Blocks blocks.old blocks.new inodes.old inodes.new
+    requires now { KeepsTime (limits_of inodes.old.geometry).has_attributes now }
+    requires few { length bytes.now ≤ TRANSFER_BYTES }
+    ensures { PreparesStoring now bytes.now B.Blocks blocks.old blocks.new inodes.old inodes.new
         (λ limits v table r. IsTrue (is_file_node (v number))
-        → PutsInto limits v table number offset
+        → PutsInto limits now v table number offset
         bytes.now r) result }
 {
-    let planned = write_bytes(alloc, inodes, blocks, number, offset, bytes)?;
+    let planned = write_bytes(alloc, inodes, blocks, now, number, offset, bytes)?;
     let Some(prepared) = planned else {
         return Ok(None);
     };

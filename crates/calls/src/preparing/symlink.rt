@@ -2,6 +2,8 @@
 
 ghost use Rattle.std.specs.Prelude.{◌≡◌, ◌==◌};
 ghost use Rattle.std.specs.List.{list_any};
+ghost use Rattle.layout.specs.StateLimits.{limits_of};
+ghost use Rattle.model.specs.Attributes.{KeepsTime};
 ghost use Rattle.model.specs.Changing.{link_text_tests, makes_symlink};
 ghost use Rattle.model.specs.Paths.{first_refusal};
 ghost use Rattle.model.specs.Volumes.{tree_of};
@@ -12,7 +14,7 @@ use crate::making::make;
 use crate::{Changing, LinkText, OwnedObject};
 use buffers::Blocks;
 use inofile::InodeFile;
-use model::{Errno, Limits};
+use model::{Errno, Limits, Time};
 use records::Failure;
 use std::alloc::Global;
 
@@ -21,12 +23,14 @@ pub fn symlink<B: Blocks>(
     alloc: Global,
     inodes: &mut InodeFile,
     blocks: &mut B,
+    now: Option<Time>,
     text: &[u8],
     path: &[u8],
 ) -> Result<Changing, Failure>
-    ensures { Prepares B.Blocks blocks.old blocks.new inodes.old inodes.new
-        (λ limits v table. Comes (makes_symlink limits (tree_of v table) text.now path.now) limits v
-        table) result }
+    requires now { KeepsTime (limits_of inodes.old.geometry).has_attributes now }
+    ensures { Prepares now B.Blocks blocks.old blocks.new inodes.old inodes.new
+        (λ limits v table. Comes (makes_symlink limits now (tree_of v table) text.now path.now)
+        limits v table) result }
 {
     if let Some(errno) = refusal_of_link_text(inodes.limits(), text) {
         return Err(Failure::Refused(errno));
@@ -35,7 +39,7 @@ pub fn symlink<B: Blocks>(
     let Some(text) = LinkText::new(bytes) else {
         unreachable!()
     };
-    make(alloc, inodes, blocks, path, OwnedObject::Link { text })
+    make(alloc, inodes, blocks, now, path, OwnedObject::Link { text })
 }
 
 // Why the text of a symbolic link is refused.

@@ -2,6 +2,7 @@
 
 ghost use Rattle.std.specs.Prelude.{◌≡◌, ◌≤◌, IsOkAnd, IsTrue, None, nat_abs};
 ghost use Rattle.layout.specs.StateLimits.{limits_of};
+ghost use Rattle.model.specs.Attributes.{KeepsTime};
 ghost use Rattle.model.specs.Changing.{size_tests, truncates};
 ghost use Rattle.model.specs.Paths.{first_refusal, parts as parts_of, text_tests_then};
 ghost use Rattle.model.specs.Volumes.{is_file_node, tree_of};
@@ -16,25 +17,27 @@ use crate::{Changing, OwnedChange};
 use buffers::Blocks;
 use inofile::InodeFile;
 use layout::InodeNumber;
-use model::{Errno, Limits};
+use model::{Errno, Limits, Time};
 use paths::{Found, Parts};
 use records::{Failure, kind_at, truncate_bytes};
 use std::alloc::Global;
 
 /// Gives a size to the file where a path leads, where a last symbolic link is followed, as far as
-/// nothing of it is seen yet: prepares its record, or tells that the file has the size, or why the
+/// nothing of it is seen yet: prepares its record, or tells that nothing changes by it, or why the
 /// call is refused. NoMemory; Device where a read failed; Damaged where a block on the way is
 /// outside its format.
 pub fn truncate<B: Blocks>(
     alloc: Global,
     inodes: &mut InodeFile,
     blocks: &mut B,
+    now: Option<Time>,
     path: &[u8],
     size: i64,
 ) -> Result<Option<Changing>, Failure>
-    ensures { PreparesAny B.Blocks blocks.old blocks.new inodes.old inodes.new
-        (λ limits v table. ComesOrStays (truncates limits (tree_of v table) path.now size) limits v
-        table) result }
+    requires now { KeepsTime (limits_of inodes.old.geometry).has_attributes now }
+    ensures { PreparesAny now B.Blocks blocks.old blocks.new inodes.old inodes.new
+        (λ limits v table. ComesOrStays (truncates limits now (tree_of v table) path.now size)
+        limits v table) result }
 {
     let parts = Parts::of(alloc, path)?;
     if let Some(errno) = refusal_of_path(inodes, path, &parts) {
@@ -43,7 +46,7 @@ pub fn truncate<B: Blocks>(
     if let Some(errno) = refusal_of_size(inodes.limits(), size) {
         return Err(Failure::Refused(errno));
     }
-    truncate_along(alloc, inodes, blocks, path, parts, size)
+    truncate_along(alloc, inodes, blocks, now, path, parts, size)
 }
 
 /// Why a file can't get a size, if it can't: EINVAL where it is negative, EFBIG where it is greater
@@ -66,48 +69,54 @@ fn truncate_along<B: Blocks>(
     alloc: Global,
     inodes: &mut InodeFile,
     blocks: &mut B,
+    now: Option<Time>,
     path: &[u8],
     parts: Parts,
     size: i64,
 ) -> Result<Option<Changing>, Failure>
+    requires now { KeepsTime (limits_of inodes.old.geometry).has_attributes now }
     requires parts { parts ≡ parts_of path.now }
     requires passed { first_refusal (text_tests_then (limits_of inodes.old.geometry) (size_tests
         (limits_of inodes.old.geometry) size) path.now) ≡ None }
     requires within { nat_abs size ≤ (limits_of inodes.old.geometry).file_bytes }
-    ensures { PreparesAny B.Blocks blocks.old blocks.new inodes.old inodes.new
-        (λ limits v table. ComesOrStays (truncates limits (tree_of v table) path.now size) limits v
-        table) result }
+    ensures { PreparesAny now B.Blocks blocks.old blocks.new inodes.old inodes.new
+        (λ limits v table. ComesOrStays (truncates limits now (tree_of v table) path.now size)
+        limits v table) result }
 {
     let number = find_object(alloc, inodes, blocks, path, parts, true)?;
     let found = kind_at(alloc, inodes, blocks, number)?;
     match found {
-        Found::File => truncate_file(alloc, inodes, blocks, number, size.unsigned_abs()),
+        Found::File => truncate_file(alloc, inodes, blocks, now, number, size.unsigned_abs()),
         _ => Err(Failure::Refused(Errno::EISDIR)),
     }
 }
 
 /// Gives a size to the file with a number, as far as nothing of it is seen yet: prepares its
-/// record; none where the file has the size; EFBIG where it is no file. NoMemory; Device where a
+/// record; none where nothing changes by it; EFBIG where it is no file. NoMemory; Device where a
 /// read failed; Damaged where a block on the way is outside its format.
 pub fn truncate_file<B: Blocks>(
     alloc: Global,
     inodes: &mut InodeFile,
     blocks: &mut B,
+    now: Option<Time>,
     number: InodeNumber,
     size: u64,
 ) -> Result<Option<Changing>, Failure>
+    requires now { KeepsTime (limits_of inodes.old.geometry).has_attributes now }
     requires number { IsInodeNumber inodes.old.geometry.inodes number }
     requires within { size ≤ (limits_of inodes.old.geometry).file_bytes }
-    ensures { PreparesAny B.Blocks blocks.old blocks.new inodes.old inodes.new
+    ensures { PreparesAny now B.Blocks blocks.old blocks.new inodes.old inodes.new
         (λ limits v table r. IsTrue (is_file_node (v number))
-        → IsOkAnd r (TruncatesFile limits v table
+        → IsOkAnd r (TruncatesFile limits now v table
         number size)) result }
 {
-    let planned = truncate_bytes(alloc, inodes, blocks, number, size)?;
+    let time = now;
+    let planned = truncate_bytes(alloc, inodes, blocks, now, number, size)?;
     let Some(prepared) = planned else {
         return Ok(None);
     };
     Ok(Some(Changing {
+        time,
         change: OwnedChange::Truncate { number, size },
         prepared,
     }))

@@ -1,7 +1,9 @@
 //! Taking a name away over a path, of anything but a directory.
 
+ghost use Rattle.layout.specs.StateLimits.{limits_of};
+ghost use Rattle.model.specs.Attributes.{KeepsTime};
 ghost use Rattle.model.specs.Changing.{unlinks};
-ghost use Rattle.model.specs.Records.{remove_name};
+ghost use Rattle.model.specs.Records.{remove_name, stamped};
 ghost use Rattle.model.specs.Volumes.{tree_of};
 ghost use Rattle.paths.specs.Numbers.{IsInodeNumber};
 ghost use Rattle.calls.specs.Changing.{ComesSwept, Decides};
@@ -13,7 +15,7 @@ use crate::{Changing, EntryName, OwnedChange};
 use buffers::Blocks;
 use inofile::InodeFile;
 use layout::InodeNumber;
-use model::{Errno, records_change_trees, volumes_are_trees};
+use model::{Errno, Time, records_change_trees, volumes_are_trees};
 use paths::{Found, Parts, Place, resolve_place};
 use records::{Failure, kind_at, prepare_remove_name};
 use std::alloc::Global;
@@ -25,11 +27,13 @@ pub fn unlink<B: Blocks>(
     alloc: Global,
     inodes: &mut InodeFile,
     blocks: &mut B,
+    now: Option<Time>,
     path: &[u8],
 ) -> Result<Changing, Failure>
-    ensures { Prepares B.Blocks blocks.old blocks.new inodes.old inodes.new
-        (λ limits v table. ComesSwept (unlinks limits (tree_of v table) path.now) limits v table)
-        result }
+    requires now { KeepsTime (limits_of inodes.old.geometry).has_attributes now }
+    ensures { Prepares now B.Blocks blocks.old blocks.new inodes.old inodes.new
+        (λ limits v table. ComesSwept (unlinks limits now (tree_of v table) path.now) limits v
+        table) result }
 {
     volumes_are_trees();
     records_change_trees();
@@ -43,7 +47,7 @@ pub fn unlink<B: Blocks>(
             trail,
             name,
             number,
-        } => return unlink_entry(alloc, inodes, blocks, trail.here(), name, number),
+        } => return unlink_entry(alloc, inodes, blocks, now, trail.here(), name, number),
         Place::Directory(_trail) => return Err(Failure::Refused(Errno::EPERM)),
         Place::Refusal(errno) => return Err(Failure::Refused(errno)),
         Place::Missing {
@@ -58,18 +62,20 @@ fn unlink_entry<B: Blocks>(
     alloc: Global,
     inodes: &mut InodeFile,
     blocks: &mut B,
+    now: Option<Time>,
     parent: InodeNumber,
     name: Vec<u8>,
     number: InodeNumber,
 ) -> Result<Changing, Failure>
-    requires { IsInodeNumber inodes.old.geometry.inodes number }
-    ensures { Prepares B.Blocks blocks.old blocks.new inodes.old inodes.new
-        (λ limits v table. UnlinksEntry limits v parent name.items number) result }
+    requires now { KeepsTime (limits_of inodes.old.geometry).has_attributes now }
+    requires number { IsInodeNumber inodes.old.geometry.inodes number }
+    ensures { Prepares now B.Blocks blocks.old blocks.new inodes.old inodes.new
+        (λ limits v table. UnlinksEntry limits now v parent name.items number) result }
 {
     let found = kind_at(alloc, inodes, blocks, number)?;
     match found {
         Found::Directory => Err(Failure::Refused(Errno::EPERM)),
-        _ => prepare_removal(alloc, inodes, blocks, parent, name),
+        _ => prepare_removal(alloc, inodes, blocks, now, parent, name),
     }
 }
 
@@ -78,17 +84,21 @@ pub(crate) fn prepare_removal<B: Blocks>(
     alloc: Global,
     inodes: &mut InodeFile,
     blocks: &mut B,
+    now: Option<Time>,
     parent: InodeNumber,
     name: Vec<u8>,
 ) -> Result<Changing, Failure>
-    ensures { Prepares B.Blocks blocks.old blocks.new inodes.old inodes.new
-        (λ limits v table. Decides limits v (remove_name parent name.items)) result }
+    requires now { KeepsTime (limits_of inodes.old.geometry).has_attributes now }
+    ensures { Prepares now B.Blocks blocks.old blocks.new inodes.old inodes.new
+        (λ limits v table. Decides limits v (stamped now (remove_name parent name.items))) result }
 {
     let Some(name) = EntryName::new(name) else {
         return Err(Failure::Refused(Errno::ENOENT));
     };
-    let prepared = prepare_remove_name(alloc, inodes, blocks, parent, &name.bytes)?;
+    let time = now;
+    let prepared = prepare_remove_name(alloc, inodes, blocks, now, parent, &name.bytes)?;
     Ok(Changing {
+        time,
         change: OwnedChange::RemoveName { parent, name },
         prepared,
     })

@@ -88,7 +88,7 @@ fn is_entry(bytes: &[u8]) -> bool {
 }
 
 fn is_record(bytes: &[u8]) -> bool {
-    let Some(record) = Record::read(bytes) else {
+    let Some(record) = Record::read(Layout::Plain, bytes) else {
         return false;
     };
     let mut again = [0xff; 600];

@@ -2,7 +2,7 @@ use Rattle.std.proofs.Common.{rules, ◌∙◌, ℕ, List, Some, Err, IfErr, IfO
 use Rattle.std.proofs.lemmas.Bool.{false≢true}
 use Rattle.layout.specs.StateLimits.{limits_of}
 use Rattle.layout.specs.Limits.{Sizes}
-use Rattle.model.specs.Records.{Made, IsMade, TakesName, create, is_vacant, node_of}
+use Rattle.model.specs.Records.{Made, IsMade, TakesName, create, is_vacant, node_of, stamped}
 use Rattle.model.specs.Volumes.{IsVolume}
 use Rattle.model.specs.declared.errno.Errno.TheVariants.{DIRFULL}
 use Rattle.inofile.specs.Objects.{IsObject}
@@ -27,7 +27,7 @@ returns-in_default-clause-prepares g c =
     let limits = limits_of c.args.inodes.now.geometry in
     let made = made_by c.args.object in
     let read = stands_over {G = g.B.Blocks} c.args.blocks.now c.new_object.new.blocks c.args.inodes.now c.new_object.ensures.reads.count (c.new_object.ensures.reads.same disk stands.shows) stands.volume in
-    subst (λ (x : List ℕ). MakesIn limits v c.args.parent x made r) c.as_slice.ensures.value (makes made (c.in_default.ensures.none _ disk settled v read.volume)))
+    subst (λ (x : List ℕ). MakesIn limits c.args.now v c.args.parent x made r) c.as_slice.ensures.value (makes made (c.in_default.ensures.none _ disk settled v read.volume)))
 
 pub returns-in_err-vacant-clause-prepares : goal.returns-in_err-vacant-clause-prepares
 returns-in_err-vacant-clause-prepares g c =
@@ -46,6 +46,7 @@ returns-then-not-vacant-clause-prepares g c =
       };
       own = tt;
       ready = tt;
+      timed = tt;
       does = λ disk settled v stands. tt;
       answers = λ disk settled v table stands volume mounted. tt;
       damaged = λ disk settled v stands is.
@@ -81,12 +82,12 @@ returns-clause-prepares g c =
     let made = made_by c.args.object in
     let name = c.in-Some-new.name.bytes.items in
     let n = c.new-number.result in
-    rw c.note_made.ensures (grants (looks_more before c.in_ok-prepared.ensures.looks) c.in_ok-prepared.ensures.ready
+    rw c.note_made.ensures (grants (looks_more before c.in_ok-prepared.ensures.looks) c.in_ok-prepared.ensures.ready refl
     (λ disk settled v stands.
     let read = stands_over {G = g.B.Blocks} c.args.blocks.now c.new_object.new.blocks c.args.inodes.now c.new_object.ensures.reads.count (c.new_object.ensures.reads.same disk stands.shows) stands.volume in
     let free = ap v c.new-number.ensures ∙ c.in-Some.ensures.free _ disk settled v read.volume in
     let there = λ (k : ℕ). subst (λ (m : Made). IsObject disk k (settled n) c.in_ok-new.new (Some (node_of m))) c.as_new.ensures.says (c.in_ok-new.ensures.object by_bytes disk stands.shows k (settled n) (settled_layout c.args.blocks.now c.args.inodes.now n stands ∙ sym (c.layout-layout.ensures ∙ ap (λ s. s.layout) c.geometry.ensures))) in
-    subst (λ (x : List ℕ). Does disk settled c.prepare_new.new.inodes v c.in_ok-prepared.prepared (create n c.args.parent made x)) c.deref.ensures.value
+    subst (λ (x : List ℕ). Does disk settled c.prepare_new.new.inodes v c.in_ok-prepared.prepared (stamped c.args.now (create n c.args.parent made x))) c.deref.ensures.value
     (c.in_ok-prepared.ensures.does _ disk settled v made (before.kept disk settled v stands) (ap is_vacant free) there c.in_ok-new.ensures.room))
     (λ disk settled v table stands volume mounted.
     let read = stands_over {G = g.B.Blocks} c.args.blocks.now c.new_object.new.blocks c.args.inodes.now c.new_object.ensures.reads.count (c.new_object.ensures.reads.same disk stands.shows) stands.volume in
@@ -97,7 +98,7 @@ returns-clause-prepares g c =
       least = c.in-Some.ensures.least _ disk settled v read.volume;
     } in (
       n,
-      ap (create n c.args.parent made) c.in-Some-new.ensures.some,
+      ap (λ (x : List ℕ). stamped c.args.now (create n c.args.parent made x)) c.in-Some-new.ensures.some,
       subst (IsMade (limits_of c.args.inodes.now.geometry)) c.as_new.ensures.says (c.as_new.ensures.good c.args.inodes.now.geometry),
       subst (λ (x : List ℕ). TakesName (limits_of c.args.inodes.now.geometry) v c.args.parent x) (c.deref.ensures.value ∙ c.in-Some-new.ensures.some)
           (subst (λ (z : Sizes). TakesName (limits_of z) v c.args.parent c.deref.result.now) before.geometry (c.in_ok-prepared.ensures.takes _ disk settled v (before.kept disk settled v stands))),

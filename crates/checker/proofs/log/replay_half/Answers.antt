@@ -8,7 +8,7 @@ use Rattle.model.specs.Records.{applied, work_of}
 use Rattle.model.specs.Room as room
 use Rattle.model.specs.Volumes.{Volume}
 use Rattle.images.specs.Soundness.{by_sizes}
-use Rattle.replay.specs.Volumes.{AppliesIn, HasVolumeIn, bodies_of}
+use Rattle.replay.specs.Volumes.{AppliesIn, HasVolumeIn, SpellsRecord, bodies_of}
 use Rattle.replay.proofs.RecordLaws.{ends, step}
 use Rattle.checker.proofs.LogLaws.{in_front}
 use Rattle.checker.proofs.ReadLaws.{looked_more, looked_of, looks_err}
@@ -27,7 +27,7 @@ loop-body-preserved g c =
           let back = before.leads disk settled v w changes shows has leads in
           let next = step by_sizes limits c.loop-body.rest.now c.in-Open.body.now c.in-Open.after.now back.0 back.1 w c.in-Open.ensures.0 c.in-Open.ensures.1 back.3 in
           let did = c.in-Ok.ensures.replays by_sizes disk settled back.1 next.change (before.look.same disk shows)
-          (subst (λ (n : ℕ). HasVolumeIn by_sizes n disk settled c.loop-body.inodes back.1) (sym before.look.count) back.2) next.spells
+          (subst (λ (n : ℕ). HasVolumeIn by_sizes n disk settled c.loop-body.inodes back.1) (sym before.look.count) back.2) (subst (λ (s : Sizes). SpellsRecord (limits_of s).has_attributes c.in-Open.body.now next.change) (sym before.geometry) next.spells)
           (subst (λ (s : Sizes). AppliesIn by_sizes (limits_of s) back.1 next.change) (sym before.geometry) next.applies) in
           (next.more, applied next.change back.1, subst (λ (n : ℕ). HasVolumeIn by_sizes n disk settled c.replay_record.new.inodes (applied next.change back.1)) before.look.count did.1, next.leads);
       led = λ disk settled v shows has.
@@ -43,7 +43,8 @@ loop-body-preserved g c =
             subst (λ (n : ℕ). HasVolumeIn by_sizes n disk settled c.replay_record.new.inodes (applied did.0 back.0)) before.look.count did.3,
             λ more w leads.
                 let all = back.2 (did.0 ∷ more) w
-                (in_front limits c.loop-body.rest.now c.in-Open.body.now c.in-Open.after.now did.0 more back.0 w c.in-Open.ensures.0 c.in-Open.ensures.1 did.1
+                (in_front limits c.loop-body.rest.now c.in-Open.body.now c.in-Open.after.now did.0 more back.0 w c.in-Open.ensures.0 c.in-Open.ensures.1
+                (subst (λ (s : Sizes). SpellsRecord (limits_of s).has_attributes c.in-Open.body.now did.0) before.geometry did.1)
                 (subst (λ (s : Sizes). AppliesIn by_sizes (limits_of s) back.0 did.0) before.geometry did.2) leads) in
                 (all.0, all.1, omega (arith, all.2), omega (arith, all.3, cost)),
           );
@@ -58,7 +59,8 @@ returns-in-Closed-clause-replays g c disk settled v w changes shows has leads =
 pub returns-in-Closed-clause-applies : goal.returns-in-Closed-clause-applies
 returns-in-Closed-clause-applies g c disk settled v shows has =
     let back = c.loop-body.invariant.led disk settled v shows has in
-    let all = back.2 [] back.0 (record { are = All-nil IsChange; held = c.in-Closed.ensures; replays = refl }) in
+    let limits = limits_of c.args.inodes.now.geometry in
+    let all = back.2 [] back.0 (record { are = All-nil (IsChange limits.has_attributes); held = c.in-Closed.ensures; replays = refl }) in
     (all.0, back.0, all.1, omega (arith, all.2), back.1, omega (arith, all.3))
 
 pub returns-in-Malformed-clause-replays : goal.returns-in-Malformed-clause-replays
@@ -81,7 +83,7 @@ returns-in-Err-Damaged-clause-replays g c disk settled v w changes shows has lea
     let back = before.leads disk settled v w changes shows has leads in
     let next = step by_sizes limits c.loop-body.rest.now c.in-Open.body.now c.in-Open.after.now back.0 back.1 w c.in-Open.ensures.0 c.in-Open.ensures.1 back.3 in
     let why = c.in-Err-Damaged.ensures.replays by_sizes disk settled back.1 next.change (before.look.same disk shows)
-    (subst (λ (n : ℕ). HasVolumeIn by_sizes n disk settled c.loop-body.inodes back.1) (sym before.look.count) back.2) next.spells
+    (subst (λ (n : ℕ). HasVolumeIn by_sizes n disk settled c.loop-body.inodes back.1) (sym before.look.count) back.2) (subst (λ (s : Sizes). SpellsRecord (limits_of s).has_attributes c.in-Open.body.now next.change) (sym before.geometry) next.spells)
     (subst (λ (s : Sizes). AppliesIn by_sizes (limits_of s) back.1 next.change) (sym before.geometry) next.applies) in
     elim why [ inl memory ↦ absurd (cc) | inr device ↦ absurd (cc) ]
 

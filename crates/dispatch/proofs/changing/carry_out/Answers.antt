@@ -49,9 +49,9 @@ returns-in-Ok-clause-told g c = λ call s served prepared.
       mounted = c.put_into.ensures.mounted;
     } in
     let behind = logged_moves {G = g.S.Station} c.log.new.self c.put_into.new.files p.table table (limits_of f.root.geometry) after served.snapshots (served.lasts.replayed.changes ++ change ∷ [])
-    ((c.in-Ok.ensures.told table s served does.knows).done advances does) made.mounted made.fits moves in
+    ((c.in-Ok.ensures.told table s served does.edit.knows).done advances does) made.mounted made.fits moves in
     logged_at {G = g.S.Station} f _ s served call p.reply
-    (leads_on {G = g.S.Station} f _ s served call p.reply p.table change made ((c.log.ensures.told table s served does.knows).any_moment advances)) change refl (c.in-Ok.ensures.told table s served does.knows).room (behind.serves, behind.records)
+    (leads_on {G = g.S.Station} f _ s served call p.reply p.table change made ((c.log.ensures.told table s served does.edit.knows).any_moment advances)) change refl (c.in-Ok.ensures.told table s served does.edit.knows).room (behind.serves, behind.records)
 
 pub returns-in-Err-clause-frame : goal.returns-in-Err-clause-frame
 returns-in-Err-clause-frame g c = λ call kind accepted.
@@ -73,14 +73,14 @@ returns-in-Err-clause-told g c = λ call s served prepared.
     let does = does_change shown call p c.in-Some.field-0 change c.in-Some.is c.record.ensures.says prepared in
     let advances = may_advance shown call p c.in-Some.field-0 change c.in-Some.is c.record.ensures.says prepared c.record.ensures.is in
     not_logged_at {G = g.S.Station} f c.log.new.self s served call p.reply
-    (leads_on {G = g.S.Station} f c.log.new.self s served call p.reply p.table change made ((c.log.ensures.told table s served does.knows).any_moment advances)) c.in-Err.error failed.own.1
+    (leads_on {G = g.S.Station} f c.log.new.self s served call p.reply p.table change made ((c.log.ensures.told table s served does.edit.knows).any_moment advances)) c.in-Err.error failed.own.1
     (λ other.
     let same = failed.refused.1 other in (
       ap (λ (b : Overlay g.row.S.Denot g.S.Station). g.S.Station.meaning b.buffers.station) same.0,
       failed.refused.0 ∙ (λ i. record (system_parts {G = g.S.Station} f) { log = same.1 i }),
     ))
     (λ is empty. record_fits {G = g.S.Station} f change empty c.record.ensures.short (failed.full (ap (λ e. Err e) is)))
-    (λ is. (failed.told table s served does.knows).short (ap (λ e. Err e) is))
+    (λ is. (failed.told table s served does.edit.knows).short (ap (λ e. Err e) is))
 
 pub put_into-requires-clause-room : goal.put_into-requires-clause-room
 put_into-requires-clause-room g c = room_stays c.args.system.now.files c.log.new.self.files c.args.prepared.table c.log.ensures.keeps c.requires.room

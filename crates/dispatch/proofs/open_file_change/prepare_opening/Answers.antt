@@ -1,12 +1,16 @@
 use Rattle.std.specs.Option.{option_map}
 use Rattle.std.proofs.Common.{Option, Ok, ap, subst, sym}
 use Rattle.layout.specs.StateLimits.{limits_of}
+use Rattle.model.specs.Descriptors.{opens}
 use Rattle.model.specs.Room.{nothing}
+use Rattle.model.specs.Volumes.{tree_of}
+use Rattle.model.specs.declared.time.Time.{Time}
+use Rattle.files.specs.Opened.{tree_with}
 use Rattle.model.specs.declared.reply.Reply.{Reply}
 use Rattle.model.specs.declared.reply.Reply.TheVariants.{Refused}
 use Rattle.descriptors.specs.Files.{description_of}
 use Rattle.descriptors.specs.Tables.{table_of}
-use Rattle.files.specs.Opening.{opening_reply}
+use Rattle.files.specs.Opening.{OpensDescriptorOver, opening_reply}
 use Rattle.files.proofs.Preparing.{passes}
 use Rattle.dispatch.specs.Preparing.{PreparesCall, opening_call}
 use Rattle.dispatch.specs.declared.prepared_call.PreparedChange.{PreparedChange}
@@ -19,7 +23,8 @@ returns-in_err-opening g c =
     let limits = limits_of c.args.inodes.now.geometry in
     let table = table_of c.args.files.now in
     passes _ c.from_residual.result c.from_residual.ensures.1 c.in_err-opening.ensures (λ disk settled v stands volume mounted fits e told.
-    opens_leads c.args.path.now c.args.flags c.args.mode c.args.below limits v table c.args.tells (Refused e) v table nothing (told c.args.tells))
+    opens_leads c.args.path.now c.args.flags c.args.mode c.args.below limits v table c.args.tells (Refused e) v table nothing
+    (subst (λ (n : Option Time). opens c.args.tells c.args.below limits n (tree_of v table) c.args.path.now c.args.flags c.args.mode (Refused e) (tree_of v table) nothing) c.requires (told c.args.tells)))
 
 pub returns : goal.returns
 returns g c =
@@ -32,7 +37,7 @@ returns g c =
     (Ok (record { reply = r; change = c.said.result; table = Opens o.fd o.file }))) (sym c.reply_of-reply.ensures)
     (subst (λ (x : Option PreparedChange). PreparesCall g.B.Blocks c.args.blocks.now c.prepare_open.new.blocks c.args.inodes.now c.prepare_open.new.inodes files call
     (Ok (record { reply = answered; change = x; table = Opens o.fd o.file }))) (sym c.said.ensures)
-    (does call c.in_ok-opening.ensures
+    (does call c.requires c.in_ok-opening.ensures
     (λ can. record {
       kind = opening_kind c.args.path.now c.args.flags c.args.mode c.args.below c.args.tells o;
       accepted = opening_accepted c.args.tells o;
@@ -40,4 +45,5 @@ returns g c =
       numbered = can.3;
       limits = said_within o.changing;
     }) (λ P is. said_so o.changing P is)
-    (λ v told. opens_so c.args.path.now c.args.flags c.args.mode c.args.below limits v files c.args.tells o o.changing told)))
+    (λ v told. opens_so c.args.path.now c.args.flags c.args.mode c.args.below limits v files c.args.tells o o.changing
+    (subst (λ (n : Option Time). OpensDescriptorOver (λ t. opens t c.args.below limits n (tree_with files v) c.args.path.now c.args.flags c.args.mode) limits v files o o.changing) c.requires told))))

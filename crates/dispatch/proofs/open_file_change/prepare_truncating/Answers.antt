@@ -2,6 +2,8 @@ use Rattle.std.proofs.Common.{ℤ, w64, Option, Ok, Err, refl, subst, sym}
 use Rattle.std.proofs.lemmas.Int.{to_z-of_z}
 use Rattle.layout.specs.StateLimits.{limits_of}
 use Rattle.model.specs.Descriptors.{truncates_open}
+use Rattle.model.specs.States.{time_under}
+use Rattle.model.specs.declared.time.Time.{Time}
 use Rattle.model.specs.declared.command.Command.TheVariants as command
 use Rattle.model.specs.declared.reply.Reply.TheVariants.{Done}
 use Rattle.calls.specs.Changing.{ComesOrStays}
@@ -17,7 +19,8 @@ use Rattle.dispatch.proofs.open_file_change.prepare_truncating.Goals as goal
 pub returns-in_err-found : goal.returns-in_err-found
 returns-in_err-found g c =
     passes _ c.from_residual.result c.from_residual.ensures.1 c.in_err-found.ensures (λ disk settled v stands volume mounted fits e told snapshots room. (
-      subst (λ (z : ℤ). ComesOrStays (truncates_open (limits_of c.args.inodes.now.geometry) (tree_with c.args.files.now v) c.args.fd z) (limits_of c.args.inodes.now.geometry) v (table_of c.args.files.now) (Err e)) (to_z-of_z w64 c.args.size c.ranges.size) told,
+      subst (λ (n : Option Time). ComesOrStays (truncates_open (limits_of c.args.inodes.now.geometry) n (tree_with c.args.files.now v) c.args.fd c.args.size) (limits_of c.args.inodes.now.geometry) v (table_of c.args.files.now) (Err e)) c.requires.time
+          (subst (λ (z : ℤ). ComesOrStays (truncates_open (limits_of c.args.inodes.now.geometry) c.args.now (tree_with c.args.files.now v) c.args.fd z) (limits_of c.args.inodes.now.geometry) v (table_of c.args.files.now) (Err e)) (to_z-of_z w64 c.args.size c.ranges.size) told),
       refl,
     ))
 
@@ -28,5 +31,6 @@ returns g c =
     let o = c.in_ok-found.found in
     subst (λ (x : Option PreparedChange). PreparesCall g.B.Blocks c.args.blocks.now c.prepare_ftruncate.new.blocks c.args.inodes.now c.prepare_ftruncate.new.inodes files (command.Ftruncate c.args.fd c.args.size)
     (Ok (record { reply = Done; change = x; table = Stays }))) (sym c.said.ensures)
-    (does (command.Ftruncate c.args.fd c.args.size) c.in_ok-found.ensures (λ within. record { kind = tt; accepted = λ errno is. cc; moves = tt; numbered = tt; limits = said_within o }) (λ P is. said_so o P is) (λ v told. comes_so limits v (table_of files) (command.Ftruncate c.args.fd c.args.size) (truncates_open (limits_of c.args.inodes.now.geometry) (tree_with files v) c.args.fd c.args.size) o (λ reply w need told snapshots room. (told, refl))
-    (subst (λ (z : ℤ). ComesOrStays (truncates_open (limits_of c.args.inodes.now.geometry) (tree_with files v) c.args.fd z) limits v (table_of files) (Ok o)) (to_z-of_z w64 c.args.size c.ranges.size) told)))
+    (does (command.Ftruncate c.args.fd c.args.size) c.requires.time c.in_ok-found.ensures (λ within. record { kind = tt; accepted = λ errno is. cc; moves = tt; numbered = tt; limits = said_within o }) (λ P is. said_so o P is) (λ v told. comes_so limits v (table_of files) (command.Ftruncate c.args.fd c.args.size) (truncates_open (limits_of c.args.inodes.now.geometry) (time_under (limits_of c.args.inodes.now.geometry)) (tree_with files v) c.args.fd c.args.size) o (λ reply w need told snapshots room. (told, refl))
+    (subst (λ (n : Option Time). ComesOrStays (truncates_open limits n (tree_with files v) c.args.fd c.args.size) limits v (table_of files) (Ok o)) c.requires.time
+    (subst (λ (z : ℤ). ComesOrStays (truncates_open limits c.args.now (tree_with files v) c.args.fd z) limits v (table_of files) (Ok o)) (to_z-of_z w64 c.args.size c.ranges.size) told))))

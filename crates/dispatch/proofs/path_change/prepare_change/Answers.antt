@@ -16,14 +16,14 @@ returns-in_err-changing-in_default g c =
 pub returns-in_ok-changing-in_default : goal.returns-in_ok-changing-in_default
 returns-in_ok-changing-in_default g c =
     let told = c.in_ok-changing-in_default.ensures in
-    grants told.looks told.ready told.does told.answers
+    grants told.looks told.ready told.timed told.does told.answers
 
 pub returns-in-Rename : goal.returns-in-Rename
 returns-in-Rename g c =
     let old = c.as_bytes.result.now in
     let path = c.as_bytes-in-Rename.result.now in
     leaves c.rename.ensures (λ disk settled v table stands volume mounted y told.
-    asked_or_stays _ c.args.call.now (path_calls.Rename old path) v table y
+    asked_or_stays _ c.args.now c.args.call.now (path_calls.Rename old path) v table y
     (two_texts c.args.call.now path_calls.Rename c.in-Rename.old c.in-Rename.new old path c.in-Rename.is c.as_bytes.ensures c.as_bytes-in-Rename.ensures) told)
 
 pub returns-in-RenameNew : goal.returns-in-RenameNew
@@ -31,7 +31,7 @@ returns-in-RenameNew g c =
     let old = c.as_bytes-in-RenameNew.result.now in
     let path = c.as_bytes-in-RenameNew-2.result.now in
     leaves c.rename-in-RenameNew.ensures (λ disk settled v table stands volume mounted y told.
-    asked_or_stays _ c.args.call.now (path_calls.RenameNew old path) v table y
+    asked_or_stays _ c.args.now c.args.call.now (path_calls.RenameNew old path) v table y
     (two_texts c.args.call.now path_calls.RenameNew c.in-RenameNew.old c.in-RenameNew.new old path c.in-RenameNew.is c.as_bytes-in-RenameNew.ensures c.as_bytes-in-RenameNew-2.ensures) told)
 
 pub returns-in-Truncate : goal.returns-in-Truncate
@@ -39,13 +39,13 @@ returns-in-Truncate g c =
     let path = c.as_bytes-in-Truncate.result.now in
     let limits = limits_of c.args.inodes.now.geometry in
     leaves c.truncate.ensures (λ disk settled v table stands volume mounted y told.
-    asked_or_stays limits c.args.call.now (path_calls.Truncate path c.in-Truncate.size) v table y
+    asked_or_stays limits c.args.now c.args.call.now (path_calls.Truncate path c.in-Truncate.size) v table y
     (one_text c.args.call.now (λ (p : List ℕ). path_calls.Truncate p c.in-Truncate.size) c.in-Truncate.path path c.in-Truncate.is c.as_bytes-in-Truncate.ensures)
-    (subst (λ (z : ℤ). ComesOrStays (truncates limits (tree_of v table) path z) limits v table y) (to_z-of_z w64 c.in-Truncate.size (search rules)) told))
+    (subst (λ (z : ℤ). ComesOrStays (truncates limits c.args.now (tree_of v table) path z) limits v table y) (to_z-of_z w64 c.in-Truncate.size (search rules)) told))
 
 pub returns-in-Set : goal.returns-in-Set
 returns-in-Set g c =
     let path = c.as_bytes-in-Set.result.now in
     leaves c.set.ensures (λ disk settled v table stands volume mounted y told.
-    asked_or_stays (limits_of c.args.inodes.now.geometry) c.args.call.now (path_calls.Set path c.in-Set.settings) v table y
+    asked_or_stays (limits_of c.args.inodes.now.geometry) c.args.now c.args.call.now (path_calls.Set path c.in-Set.settings) v table y
     (one_text c.args.call.now (λ (p : List ℕ). path_calls.Set p c.in-Set.settings) c.in-Set.path path c.in-Set.is c.as_bytes-in-Set.ensures) told)

@@ -1,7 +1,12 @@
-use Rattle.std.proofs.Common.{w64, length, Ok, Err, Some, None, refl}
+use Rattle.std.proofs.Common.{w64, length, Option, Ok, Err, Some, None, refl, subst}
 use Rattle.std.proofs.lemmas.Int.{to_z-of_z}
 use Rattle.layout.specs.StateLimits.{limits_of}
-use Rattle.model.specs.Room.{nothing}
+use Rattle.model.specs.Room.{logs, nothing}
+use Rattle.model.specs.Descriptors.{stores}
+use Rattle.model.specs.Records.{applied, work_of}
+use Rattle.model.specs.Volumes.{tree_of}
+use Rattle.model.specs.declared.time.Time.{Time}
+use Rattle.dispatch.specs.Preparing.{logged_by}
 use Rattle.model.specs.declared.command.Command.TheVariants as command
 use Rattle.model.specs.declared.command.PathCall.TheVariants as path_calls
 use Rattle.model.specs.declared.reply.Reply.TheVariants.{Refused, Wrote}
@@ -19,20 +24,31 @@ returns-in_err-found g c = λ files.
     let limits = limits_of c.args.inodes.now.geometry in
     passes _ c.from_residual.result c.from_residual.ensures.1 (stores_beside c.in_err-found.ensures files) (λ disk settled v stands volume mounted fits e told.
     path_leads (path_calls.Store c.args.path.now c.args.offset c.args.bytes.now) limits v (table_of files) (Refused e) v nothing
-    (stores_at limits v (table_of files) c.args.path.now c.args.bytes.now (Err e) (to_z-of_z w64 c.args.offset c.ranges.offset) told))
+    (subst (λ (n : Option Time). stores limits n (tree_of v (table_of files)) c.args.path.now c.args.offset c.args.bytes.now (Refused e) (tree_of v (table_of files)) nothing) c.requires
+    (stores_at limits c.args.now v (table_of files) c.args.path.now c.args.bytes.now (Err e) (to_z-of_z w64 c.args.offset c.ranges.offset) told)))
 
 pub returns-in-Some : goal.returns-in-Some
 returns-in-Some g c = λ files.
     let call = command.Path (path_calls.Store c.args.path.now c.args.offset c.args.bytes.now) in
     let limits = limits_of c.args.inodes.now.geometry in
     let w : Storing = c.in-Some.storing in
-    let change : PreparedChange = record { «record» = records.Writes w.number w.offset c.args.bytes; prepared = w.prepared } in
-    does call (stores_beside (rw c.in-Some.is at c.in_ok-found.ensures) files) (λ within. record { kind = tt; accepted = λ errno is. cc; moves = tt; numbered = tt; limits = (within.0, within.1) }) (λ P is. is) (λ v told.
-    let here = stores_at limits v (table_of files) c.args.path.now c.args.bytes.now (Ok (Some w)) (to_z-of_z w64 c.args.offset c.ranges.offset) told in
-    goes_beside limits v (table_of files) call (Wrote (length c.args.bytes.now)) Stays change here.0 (λ x. tt) (λ snapshots room. (here.1, refl)))
+    let change : PreparedChange = record { time = c.args.now; «record» = records.Writes w.number w.offset c.args.bytes; prepared = w.prepared } in
+    does call c.requires (stores_beside (rw c.in-Some.is at c.in_ok-found.ensures) files) (λ within. record { kind = tt; accepted = λ errno is. cc; moves = tt; numbered = tt; limits = (within.0, within.1) }) (λ P is. is) (λ v told.
+    let here = stores_at limits c.args.now v (table_of files) c.args.path.now c.args.bytes.now (Ok (Some w)) (to_z-of_z w64 c.args.offset c.ranges.offset) told in
+    goes_beside limits v (table_of files) call (Wrote (length c.args.bytes.now)) Stays change here.0 (λ x. tt) (λ snapshots room. (
+      subst (λ (n : Option Time). stores limits n (tree_of v (table_of files)) c.args.path.now c.args.offset c.args.bytes.now (Wrote (length c.args.bytes.now)) (tree_of (applied (logged_by change) v) (table_of files)) (logs (work_of v (logged_by change)))) c.requires here.1,
+      refl,
+    )))
 
 pub returns-in-None : goal.returns-in-None
 returns-in-None g c = λ files.
-    does (command.Path (path_calls.Store c.args.path.now c.args.offset c.args.bytes.now)) (stores_beside (rw c.in-None.is at c.in_ok-found.ensures) files)
+    does (command.Path (path_calls.Store c.args.path.now c.args.offset c.args.bytes.now)) c.requires (stores_beside (rw c.in-None.is at c.in_ok-found.ensures) files)
     (λ within. record { kind = tt; accepted = λ errno is. cc; moves = tt; numbered = tt; limits = tt }) (λ P is. tt)
-    (λ v told. (tt, λ snapshots room. (stores_at (limits_of c.args.inodes.now.geometry) v (table_of files) c.args.path.now c.args.bytes.now (Ok None) (to_z-of_z w64 c.args.offset c.ranges.offset) told, refl)))
+    (λ v told. (
+      tt,
+      λ snapshots room. (
+        subst (λ (n : Option Time). stores (limits_of c.args.inodes.now.geometry) n (tree_of v (table_of files)) c.args.path.now c.args.offset c.args.bytes.now (Wrote 0) (tree_of v (table_of files)) nothing) c.requires
+            (stores_at (limits_of c.args.inodes.now.geometry) c.args.now v (table_of files) c.args.path.now c.args.bytes.now (Ok None) (to_z-of_z w64 c.args.offset c.ranges.offset) told),
+        refl,
+      ),
+    ))

@@ -38,3 +38,7 @@ returns-in-Ftruncate g c =
     asked_so c.args.call.now (command.Ftruncate c.in-Ftruncate.fd c.in-Ftruncate.size) c.prepare_truncating.result c.in-Ftruncate.is
     (subst (λ (z : ℤ). PreparesCall g.B.Blocks c.args.blocks.now c.prepare_truncating.new.blocks c.args.inodes.now c.prepare_truncating.new.inodes c.args.files.now
     (command.Ftruncate c.in-Ftruncate.fd z) c.prepare_truncating.result) (to_z-of_z w64 c.in-Ftruncate.size (search rules)) c.prepare_truncating.ensures)
+
+pub returns-in-Fchmod : goal.returns-in-Fchmod
+returns-in-Fchmod g c =
+    asked_so c.args.call.now (command.Fchmod c.in-Fchmod.fd c.in-Fchmod.mode) c.prepare_changing_mode.result c.in-Fchmod.is c.prepare_changing_mode.ensures

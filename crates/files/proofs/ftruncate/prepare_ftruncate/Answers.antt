@@ -18,7 +18,7 @@ returns-in_err-file g c =
     let told = subst (λ (l : Limits). PassesOpen (truncate_tests l (to_z w64 (of_z w64 c.args.size))) table c.args.fd (Err errno)) c.limits.ensures c.in_err-file.ensures.passes in
     let refused = subst (λ (z : ℤ). PassesOpen (truncate_tests (limits_of c.args.inodes.now.geometry) z) table c.args.fd (Err errno)) (to_z-of_z w64 c.args.size c.ranges.size) told in
     refused_at_once errno c.from_residual.result c.from_residual.ensures.1 c.in_err-file.ensures.own (λ disk settled v stands volume mounted fits.
-    ftruncate_refused (limits_of c.args.inodes.now.geometry) v table c.args.fd c.args.size errno refused)
+    ftruncate_refused (limits_of c.args.inodes.now.geometry) c.args.now v table c.args.fd c.args.size errno refused)
 
 pub truncate_file-requires-clause-within : goal.truncate_file-requires-clause-within
 truncate_file-requires-clause-within g c =
@@ -34,6 +34,6 @@ returns g c = leaves c.truncate_file.ensures (λ disk settled v stands volume mo
     let passes = subst (λ (l : Limits). PassesOpen (truncate_tests l (to_z w64 (of_z w64 c.args.size))) table c.args.fd (Ok f)) c.limits.ensures c.in_ok-file.ensures.passes in
     let opened = subst (λ (z : ℤ). PassesOpen (truncate_tests limits z) table c.args.fd (Ok f)) back passes in
     let start : c.unsigned_abs.result ≡ nat_abs c.args.size = c.unsigned_abs.ensures.value ∙ ap nat_abs back in
-    ftruncate_told limits v table c.args.fd c.args.size f r opened
-    (subst (λ (n : ℕ). IsOkAnd r (TruncatesFile limits v (table_of table) f.number n)) start
-    (at_file v f (λ n. IsOkAnd r (TruncatesFile limits v (table_of table) n c.unsigned_abs.result)) c.new-number.ensures (fits.files c.args.fd f opened.0) truncates_file)))
+    ftruncate_told limits c.args.now v table c.args.fd c.args.size f r opened
+    (subst (λ (n : ℕ). IsOkAnd r (TruncatesFile limits c.args.now v (table_of table) f.number n)) start
+    (at_file v f (λ n. IsOkAnd r (TruncatesFile limits c.args.now v (table_of table) n c.unsigned_abs.result)) c.new-number.ensures (fits.files c.args.fd f opened.0) truncates_file)))

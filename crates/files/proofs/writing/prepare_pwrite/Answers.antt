@@ -18,7 +18,7 @@ returns-in_err-file g c =
     c.is_no_range.ensures ∙ ap (λ (z : ℤ). is_negative z || is_too_many (length bytes)) (to_z-of_z w64 c.args.offset c.ranges.offset) in
     let refused = subst (λ (b : Bool). PassesOpen (write_tests b) table c.args.fd (Err errno)) wrong c.in_err-file.ensures.passes in
     refused_at_once errno c.from_residual.result c.from_residual.ensures.1 c.in_err-file.ensures.own (λ disk settled v stands volume mounted fits.
-    pwrite_refused (limits_of c.args.inodes.now.geometry) v table c.args.fd bytes c.args.offset errno refused)
+    pwrite_refused (limits_of c.args.inodes.now.geometry) c.args.now v table c.args.fd bytes c.args.offset errno refused)
 
 pub returns : goal.returns
 returns g c =
@@ -32,4 +32,4 @@ returns g c =
     let opened = subst (λ (b : Bool). PassesOpen (write_tests b) table c.args.fd (Ok f)) wrong c.in_ok-file.ensures.passes in
     let start : c.unsigned_abs.result ≡ nat_abs c.args.offset = c.unsigned_abs.ensures.value ∙ ap nat_abs back in
     written_through table c.args.fd f c.unsigned_abs.result bytes opened.0 c.write_file.ensures (λ disk settled v stands volume mounted fits r put.
-    pwrite_told limits v table c.args.fd f bytes opened.0 fits c.args.offset r opened (subst (λ (n : ℕ). PutsFile limits v (table_of table) f n bytes r) start put))
+    pwrite_told limits c.args.now v table c.args.fd f bytes opened.0 fits c.args.offset r opened (subst (λ (n : ℕ). PutsFile limits c.args.now v (table_of table) f n bytes r) start put))

@@ -10,7 +10,7 @@ pub returns-in_err-file : goal.returns-in_err-file
 returns-in_err-file g c =
     let errno = c.in_err-file.field-0.0 in
     refused_at_once errno c.from_residual.result c.from_residual.ensures.1 c.in_err-file.ensures.own (λ disk settled v stands volume mounted fits.
-    write_refused (limits_of c.args.inodes.now.geometry) v c.args.table.now c.args.fd c.args.bytes.now errno c.in_err-file.ensures.passes)
+    write_refused (limits_of c.args.inodes.now.geometry) c.args.now v c.args.table.now c.args.fd c.args.bytes.now errno c.in_err-file.ensures.passes)
 
 pub returns : goal.returns
 returns g c =
@@ -19,4 +19,4 @@ returns g c =
     let opened = c.in_ok-file.ensures.passes in
     let bytes = c.args.bytes.now in
     written_through table c.args.fd f c.place_of.result bytes opened.0 c.write_file.ensures (λ disk settled v stands volume mounted fits r put.
-    write_told (limits_of c.args.inodes.now.geometry) v table c.args.fd f bytes opened.0 fits r opened (subst (λ (n : ℕ). PutsFile (limits_of c.args.inodes.now.geometry) v (table_of table) f n bytes r) c.place_of.ensures put))
+    write_told (limits_of c.args.inodes.now.geometry) c.args.now v table c.args.fd f bytes opened.0 fits r opened (subst (λ (n : ℕ). PutsFile (limits_of c.args.inodes.now.geometry) c.args.now v (table_of table) f n bytes r) c.place_of.ensures put))

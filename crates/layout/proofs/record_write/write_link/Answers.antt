@@ -1,6 +1,8 @@
-use Rattle.layout.proofs.WritingLaws.{writes_both}
+use Rattle.std.proofs.Common.{◌+◌, arith}
+use Rattle.layout.proofs.WritingLaws.{writes_both, written_to}
 use Rattle.layout.proofs.record_write.write_link.Goals as goal
 
 pub returns : goal.returns
 returns c =
-    writes_both c.put_byte.ensures (writes_both c.put_number.ensures (writes_both c.put_number-2.ensures c.put_name.ensures))
+    let at = c.args.at in
+    writes_both c.put_number.ensures (writes_both (written_to {end = at + 8} (omega arith) c.put_number-2.ensures) (written_to (omega arith) c.put_name.ensures))

@@ -1,6 +1,8 @@
-use Rattle.layout.proofs.WritingLaws.{writes_both}
+use Rattle.std.proofs.Common.{arith}
+use Rattle.layout.proofs.WritingLaws.{writes_both, written_to}
 use Rattle.layout.proofs.record_write.write_truncate.Goals as goal
 
 pub returns : goal.returns
 returns c =
-    writes_both c.put_byte.ensures (writes_both c.put_number.ensures c.put_u64.ensures)
+    let at = c.args.at in
+    writes_both c.put_number.ensures (written_to (omega arith) c.put_u64.ensures)

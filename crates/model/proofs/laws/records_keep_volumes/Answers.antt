@@ -1,4 +1,4 @@
-use Rattle.model.proofs.MoveLemmas.{records_keep_volumes}
+use Rattle.model.proofs.MarkLemmas.{records_keep_volumes}
 use Rattle.model.proofs.laws.records_keep_volumes.Goals as goal
 
 pub returns : goal.returns

@@ -4,7 +4,7 @@ use Rattle.model.specs.Records.{IsBelow}
 use Rattle.model.specs.Volumes.{entries, is_directory_node}
 use Rattle.paths.specs.Numbers.{IsInodeNumber}
 use Rattle.records.specs.Looking.{Finds}
-use Rattle.records.specs.Preparing.{IsKnownVolume}
+use Rattle.records.specs.Planning.{IsKnownVolume}
 use Rattle.records.proofs.below.climb.Given as goal
 
 -- a directory is reached that lies below the object just where the first one does

@@ -6,7 +6,7 @@ use Rattle.model.specs.Records.{IsBelow}
 use Rattle.model.specs.Volumes.{entries}
 use Rattle.paths.proofs.Looks.{looks_err, looks_more, looks_ok}
 use Rattle.paths.proofs.LookingUp.{same_error}
-use Rattle.records.specs.Preparing.{IsKnownVolume}
+use Rattle.records.specs.Planning.{IsKnownVolume}
 use Rattle.records.proofs.BelowLaws.{below_self, no_directory_empty, only_itself}
 use Rattle.records.proofs.Looking.{behind}
 use Rattle.records.proofs.StandLaws.{no_look}

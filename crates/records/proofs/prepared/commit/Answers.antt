@@ -1,54 +1,48 @@
-use Rattle.std.proofs.Common.{Some, arith}
-use Rattle.model.specs.Records.{applied}
-use Rattle.records.proofs.RoomLaws.{room_behind}
-use Rattle.records.proofs.StandLaws.{some_stays_at_hand, stays_at_hand}
-use Rattle.records.proofs.StepLaws.{steps_behind, takes_behind}
+use Rattle.std.proofs.Common.{◌+◌, ◌≤◌, ap, subst, arith}
+use Rattle.layout.specs.Limits.{Sizes}
+use Rattle.layout.specs.StateLimits.{limits_of}
+use Rattle.model.specs.Attributes.{KeepsTime}
+use Rattle.model.specs.Records.{edited, touches_of}
+use Rattle.model.specs.Volumes.{Volume}
+use Rattle.inofile.specs.Room.{memory_room}
+use Rattle.inofile.specs.Volumes.{IsVolumeIn}
+use Rattle.records.specs.Marks.{touches_in}
+use Rattle.records.proofs.LaterLaws.{marked_later, plan_later}
+use Rattle.records.proofs.MarkLaws.{same_marks, same_room, touches_cost}
 use Rattle.records.proofs.prepared.commit.Goals as goal
 
-pub commit_some-requires : goal.commit_some-requires
-commit_some-requires c = takes_behind (Some c.args.prepared.first) c.args.prepared.next c.commit_update.ensures c.requires.next_apart c.requires.next
-
-pub commit_some-requires-2 : goal.commit_some-requires-2
-commit_some-requires-2 c =
-    let p = c.args.prepared in
-    takes_behind p.next p.last c.commit_some.ensures c.requires.apart (takes_behind (Some p.first) p.last c.commit_update.ensures c.requires.last_apart c.requires.last)
-
-pub returns-clause-volume : goal.returns-clause-volume
-returns-clause-volume c = λ detail count disk settled v change volume does.
-    let first = c.commit_update.ensures in
-    let next = c.commit_some.ensures in
-    let p = c.args.prepared in
-    let w = applied change v in
-    c.commit_some-2.ensures.volume count disk settled does.second w
-    (next.volume count disk settled does.between does.second (first.volume count disk settled v does.between volume does.first)
-    (steps_behind detail disk settled does.between does.second (Some p.first) p.next first does.next_beside does.next))
-    (steps_behind detail disk settled does.second w p.next p.last next does.beside (steps_behind detail disk settled does.second w (Some p.first) p.last first does.last_beside does.last))
+pub commit_marks-requires-clause-at_hand : goal.commit_marks-requires-clause-at_hand
+commit_marks-requires-clause-at_hand c =
+    let plan = c.commit_plan.ensures in
+    marked_later c.args.inodes.now c.commit_plan.new.inodes plan.geometry plan.keeps plan.stays c.args.prepared.marks c.requires.marks
 
 pub returns-clause-at_hand : goal.returns-clause-at_hand
 returns-clause-at_hand c =
-    let p = c.args.prepared in
-    let t = c.commit_update.new.inodes in
-    let u = c.commit_some.new.inodes in
-    let new = c.commit_some-2.new.inodes in
-    let next = c.commit_some.ensures in
-    let last = c.commit_some-2.ensures in
+    let plan = c.commit_plan.ensures in
+    let marks = c.commit_marks.ensures in
+    let t = c.commit_plan.new.inodes in
     record {
-      first = stays_at_hand u new last.geometry last.keeps last.stays p.first.number (stays_at_hand t u next.geometry next.keeps next.stays p.first.number c.commit_update.ensures.at_hand);
-      next = some_stays_at_hand u new last.geometry last.keeps last.stays p.next next.at_hand;
-      last = last.at_hand;
+      plan = plan_later t c.commit_marks.new.inodes marks.geometry marks.keeps marks.stays c.args.prepared.plan plan.at_hand;
+      marks = marked_later t c.commit_marks.new.inodes marks.geometry marks.keeps marks.stays c.args.prepared.marks
+          (marked_later c.args.inodes.now t plan.geometry plan.keeps plan.stays c.args.prepared.marks c.requires.marks);
     }
+
+pub returns-clause-volume : goal.returns-clause-volume
+returns-clause-volume c = λ detail count disk settled v change volume does.
+    let marks = c.args.prepared.marks in
+    let w = edited change.edit v in
+    subst (λ (x : Volume). IsVolumeIn detail count disk settled c.commit_marks.new.inodes x) (same_marks marks.time change.time (touches_in marks) (touches_of change.edit v) does.time does.touches w)
+    (c.commit_marks.ensures.volume {detail = detail} count disk settled w (c.commit_plan.ensures.volume detail count disk settled v change.edit volume does.edit))
 
 pub returns-clause-room : goal.returns-clause-room
 returns-clause-room c = λ detail base count disk settled v change volume does.
-    let first = c.commit_update.ensures in
-    let next = c.commit_some.ensures in
-    let p = c.args.prepared in
-    let w = applied change v in
-    let then = first.volume count disk settled v does.between volume does.first in
-    let on = steps_behind detail disk settled does.between does.second (Some p.first) p.next first does.next_beside does.next in
-    let one = first.room base count disk settled v does.between does.firsts volume does.first does.first_room in
-    let two = next.room base count disk settled does.between does.second does.nexts then on (room_behind (Some p.first) p.next does.nexts first does.next_beside does.next_room) in
-    let three = c.commit_some-2.ensures.room base count disk settled does.second w does.lasts (next.volume count disk settled does.between does.second then on)
-    (steps_behind detail disk settled does.second w p.next p.last next does.beside (steps_behind detail disk settled does.second w (Some p.first) p.last first does.last_beside does.last))
-    (room_behind p.next p.last does.lasts next does.beside (room_behind (Some p.first) p.last does.lasts first does.last_beside does.last_room)) in
-    omega (arith, one, two, three, does.within)
+    let s = c.args.inodes.now in
+    let marks = c.args.prepared.marks in
+    let w = edited change.edit v in
+    let plan = c.commit_plan.ensures in
+    let one = plan.room detail base count disk settled v change.edit volume does.edit in
+    let two = c.commit_marks.ensures.room {detail = detail} base count disk settled w (plan.volume detail count disk settled v change.edit volume does.edit) in
+    let same = same_room marks.time change.time (touches_in marks) (touches_of change.edit v) does.time does.touches in
+    let left = touches_cost s.geometry v change.time change.edit (subst (KeepsTime (limits_of s.geometry).has_attributes) does.time c.requires.time) in
+    let is = ap (λ (x : Volume). memory_room base c.commit_marks.new.inodes x) (same_marks marks.time change.time (touches_in marks) (touches_of change.edit v) does.time does.touches w) in
+    omega (arith, one, two, same, left, is)

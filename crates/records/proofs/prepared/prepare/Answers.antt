@@ -1,4 +1,4 @@
-use Rattle.records.proofs.Deciding.{of_known}
+use Rattle.records.proofs.Recording.{of_known}
 use Rattle.records.proofs.prepared.prepare.Goals as goal
 
 pub returns-in-Create : goal.returns-in-Create

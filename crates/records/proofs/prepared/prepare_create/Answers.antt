@@ -1,87 +1,11 @@
-use Rattle.std.proofs.Common.{rules, ◌≡◌, ◌≤◌, ◌<◌, ℕ, List, IsTrue, refl, sym, ap, subst, ◌∙◌}
-use Rattle.std.proofs.lemmas.Bool.{both_ways}
-use Rattle.std.proofs.lemmas.Result.{IfOk-weaker}
-use Rattle.layout.specs.StateLimits.{limits_of}
-use Rattle.layout.specs.Limits.{Sizes}
-use Rattle.layout.specs.Record.{KeepsMadeLimits, made_of}
-use Rattle.layout.specs.declared.inode.Inode.{Inode}
-use Rattle.model.specs.Records.{IsMade, Made, TakesName, create, directory, file, symbolic_link}
-use Rattle.model.specs.Volumes.{Volume}
-use Rattle.model.specs.declared.errno.Errno.TheVariants.{DIRFULL}
-use Rattle.paths.specs.Standing.{StandsIn}
-use Rattle.paths.proofs.Looks.{looks_more, looks_reads}
-use Rattle.records.specs.Obstacles.{IsObstacle, tells_obstacle}
-use Rattle.images.specs.Soundness.{Detail}
-use Rattle.records.specs.Preparing.{IsKnownVolume}
-use Rattle.records.proofs.DetailLaws.{known_of}
-use Rattle.records.proofs.Deciding.{obstructs, reads_in, stops}
-use Rattle.records.proofs.Failures.{refusal_is}
-use Rattle.records.proofs.StandLaws.{no_look, settled_layout}
+use Rattle.records.proofs.Recording.{hinders, marked, unmarked}
 use Rattle.records.proofs.prepared.prepare_create.Goals as goal
 
--- what a file system of these formats may have made, a record may say
-made_kept : (s : Sizes) (made : Made) → IsMade (limits_of s) made → KeepsMadeLimits made
-made_kept s (file mode) is = tt
-made_kept s (directory mode) is = tt
-made_kept s (symbolic_link text) is = is
+pub returns-in_err-plan : goal.returns-in_err-plan
+returns-in_err-plan g c = hinders _ c.from_residual.result c.from_residual.ensures.1 c.in_err-plan.ensures.decides
 
-pub returns-then-not-is_made : goal.returns-then-not-is_made
-returns-then-not-is_made g c = obstructs no_look refl (λ detail disk settled v stands volume may. both_ways c.is_made.result c.if-not-is_made.true ((c.is_made.ensures c.args.inodes.now.geometry).1 may.2))
-
-pub returns-in_err-vacant : goal.returns-in_err-vacant
-returns-in_err-vacant g c = stops c.from_residual.result c.from_residual.ensures.1 c.in_err-vacant.ensures.looks (λ detail disk settled v stands reads. c.in_err-vacant.ensures.damaged {detail = detail} disk settled v stands)
-
-pub returns-then-not-vacant : goal.returns-then-not-vacant
-returns-then-not-vacant g c = obstructs c.in_ok-vacant.ensures.looks refl (λ detail disk settled v stands volume may.
-    both_ways c.in_ok-vacant.vacant c.if-not-vacant.true (c.in_ok-vacant.ensures.found disk settled v stands ∙ may.3))
-
-pub new_object-requires : goal.new_object-requires
-new_object-requires g c = made_kept c.args.inodes.now.geometry (made_of c.args.object.now) ((c.is_made.ensures c.args.inodes.now.geometry).0 c.if-not-is_made.false)
-
-pub returns-in_err-new : goal.returns-in_err-new
-returns-in_err-new g c = stops c.from_residual-in_err-new.result c.from_residual-in_err-new.ensures.1 (looks_reads c.in_ok-vacant.ensures.looks c.in_err-new.ensures.reads) (λ detail disk settled v stands reads is.
-    c.in_err-new.ensures.damaged disk (c.in_ok-vacant.ensures.looks.kept disk settled v stands).shows is)
+pub returns-in_err-prepared : goal.returns-in_err-prepared
+returns-in_err-prepared g c = unmarked c.from_residual-in_err-prepared.result c.from_residual-in_err-prepared.ensures.1 c.in_ok-plan.ensures.decides c.in_err-prepared.ensures
 
 pub returns : goal.returns
-returns g c =
-    let vacant = c.in_ok-vacant.ensures in
-    let made = c.in_ok-new.ensures in
-    let new = c.prepare_new.ensures in
-    let before = looks_reads vacant.looks made.reads in
-    let low : 4 ≤ c.args.number = search rules in
-    let high : c.args.number < c.args.inodes.now.geometry.inodes = search rules in
-    let good : IsMade (limits_of c.args.inodes.now.geometry) (made_of c.args.object.now) = (c.is_made.ensures c.args.inodes.now.geometry).0 c.if-not-is_made.false in
-    let is_free = λ (detail : Detail) (disk : ℕ → List ℕ) (settled : ℕ → Inode) (v : Volume) (stands : StandsIn detail g.B.Blocks disk settled v c.args.blocks.now c.args.inodes.now).
-    sym (vacant.found disk settled v stands) ∙ c.if-not-vacant.false in
-    record {
-      looks = looks_more before new.looks;
-      own = refusal_is (λ e. IsTrue (tells_obstacle (create c.args.number c.args.parent (made_of c.args.object.now) c.args.name.now) e)) (λ e. e ≡ DIRFULL) c.prepare_new.result new.full new.full (λ is. refl);
-      ready = new.ready;
-      does = λ {detail} disk settled v stands.
-          new.does detail disk settled v (made_of c.args.object.now) (before.kept disk settled v stands) (is_free detail disk settled v stands)
-          (λ k.
-          let now = vacant.looks.kept disk settled v stands in
-          made.object detail disk now.shows k (settled c.args.number) (settled_layout c.is_vacant.new.blocks c.is_vacant.new.inodes c.args.number now ∙ sym (c.layout-layout.ensures ∙ ap (λ s. s.layout) c.geometry-2.ensures))) made.room;
-      applies = λ {detail} disk settled v stands.
-          IfOk-weaker c.prepare_new.result _ _ (λ p taken. record {
-            low = low;
-            high = high;
-            vacant = is_free detail disk settled v stands;
-            takes = subst (λ (s : Sizes). TakesName (limits_of s) v c.args.parent c.args.name.now) before.geometry taken;
-            good = good;
-          })
-          (new.takes detail disk settled v (before.kept disk settled v stands));
-      place = λ disk settled v stands. IfOk-weaker c.prepare_new.result _ _ (λ p taken. tt) (new.takes _ disk settled v (before.kept disk settled v stands));
-      refused = λ {detail} disk settled v stands volume.
-          refusal_is (IsObstacle (limits_of c.args.inodes.now.geometry) v (create c.args.number c.args.parent (made_of c.args.object.now) c.args.name.now))
-          (λ e. TakesName (limits_of c.is_vacant.new.inodes.geometry) v c.args.parent c.args.name.now → ⊥) c.prepare_new.result new.full
-          (new.refused detail disk settled v (before.kept disk settled v stands) (subst (λ (s : Sizes). IsKnownVolume detail (limits_of s) v) (sym before.geometry) (known_of detail (limits_of c.args.inodes.now.geometry) (create c.args.number c.args.parent (made_of c.args.object.now) c.args.name.now) v volume)))
-          (λ full. (
-            (low, high, good, is_free detail disk settled v stands),
-            λ takes. full (subst (λ (s : Sizes). TakesName (limits_of s) v c.args.parent c.args.name.now) (sym before.geometry) takes),
-          ));
-      reads = λ {detail} disk settled v stands.
-          IfOk-weaker c.prepare_new.result _ _ (λ p taken. reads_in detail v (create c.args.number c.args.parent (made_of c.args.object.now) c.args.name.now) tt)
-          (new.takes detail disk settled v (before.kept disk settled v stands));
-      damaged = λ {detail} disk settled v stands reads is. new.damaged detail disk settled v (before.kept disk settled v stands) is;
-    }
+returns g c = marked c.in_ok-plan.ensures.decides c.in_ok-prepared.ensures c.of_entry-marks.ensures.time c.requires (λ detail disk settled v stands. c.of_entry-marks.ensures.touches)

@@ -2,7 +2,7 @@ use Rattle.std.proofs.Common.{◌≡◌, ◌∙◌, ◌≤◌, inl, inr, ℕ, Op
 use Rattle.layout.specs.StateLimits.{limits_of}
 use Rattle.layout.specs.Limits.{Sizes}
 use Rattle.layout.specs.declared.entry.Entry.{Entry}
-use Rattle.model.specs.Records.{applied, rename}
+use Rattle.model.specs.Records.{edited, rename}
 use Rattle.model.specs.Volumes.{Node, Volume, entries, is_directory_node, released, with_entry, with_node}
 use Rattle.dirs.specs.Directory.{with_name}
 use Rattle.dirs.specs.Room.{piece_count}
@@ -57,7 +57,7 @@ returns-then-is_same g c =
     let edit = subst (PreparesEdit disk (limits_of s.geometry) (edits.Move c.args.name entry) (v k) (loaded s k)) c.in-Some.is (planned.edit.found disk settled v known.0) in
     let between = with_node k (with_node_names f (v k)) v in
     let target = entries v k y in
-    let same : applied (rename d x k y) v ≡ released target between =
+    let same : edited (rename d x k y) v ≡ released target between =
     ap (λ (to : Option ℕ). with_entry k y to (with_entry d x None (released target v))) moves.there
     ∙ moved_inside d k x y (Some n) target v (c.is_same.ensures.yes c.if-is_same.true) (aside_new detail disk settled v d x n k y step moves) in
     does_two (record { number = k; update = updates.Names c.in-Some.edit }) step between 13 6 (with_node_names f (v k), (f, edit.0, refl), refl)

@@ -5,7 +5,7 @@ use Rattle.layout.specs.Limits.{Sizes}
 use Rattle.model.specs.Records.{applied, cost_of_all, work_of}
 use Rattle.model.specs.Room.{cost}
 use Rattle.model.specs.Volumes.{Volume}
-use Rattle.replay.specs.Volumes.{AppliesIn, HasVolumeIn, RaisesRoom, bodies_of}
+use Rattle.replay.specs.Volumes.{AppliesIn, HasVolumeIn, RaisesRoom, SpellsRecord, bodies_of}
 use Rattle.replay.proofs.Errors.{passed}
 use Rattle.replay.proofs.RecordLaws.{all_done, in_front, none_behind, none_lead, one_in_front, one_more}
 use Rattle.replay.proofs.replaying.replay_all.Goals as goal
@@ -35,7 +35,8 @@ loop-body-preserved g c = record {
       let back = c.loop-body.invariant.leads detail disk settled v w changes shows has leads in
       let next = one_more detail limits c.args.records.now c.loop-body.rest.now changes back.0 w back.2 c.in-Open.body.now c.in-Open.after.now c.in-Open.ensures.0 c.in-Open.ensures.1 in
       let did = c.in_ok-cost-in-Open.ensures.replays detail disk settled back.0 next.0.change (read.same disk shows)
-      (subst (λ (n : ℕ). HasVolumeIn detail n disk settled c.loop-body.inodes back.0) (sym read.count) back.1) next.0.spells
+      (subst (λ (n : ℕ). HasVolumeIn detail n disk settled c.loop-body.inodes back.0) (sym read.count) back.1)
+      (subst (λ (s : Sizes). SpellsRecord (limits_of s).has_attributes c.in-Open.body.now next.0.change) (sym sizes) next.0.spells)
       (subst (λ (s : Sizes). AppliesIn detail (limits_of s) back.0 next.0.change) (sym sizes) next.0.applies) in (
         applied next.0.change back.0,
         subst (λ (n : ℕ). HasVolumeIn detail n disk settled c.replay_record.new.inodes (applied next.0.change back.0)) read.count did.1,
@@ -53,7 +54,8 @@ loop-body-preserved g c = record {
         applied did.0 back.0,
         subst (λ (n : ℕ). HasVolumeIn detail n disk settled c.replay_record.new.inodes (applied did.0 back.0)) read.count did.3,
         λ more w leads. back.2 (did.0 ∷ more) w
-            (in_front detail limits c.loop-body.rest.now c.in-Open.body.now c.in-Open.after.now did.0 more back.0 w c.in-Open.ensures.0 c.in-Open.ensures.1 did.1
+            (in_front detail limits c.loop-body.rest.now c.in-Open.body.now c.in-Open.after.now did.0 more back.0 w c.in-Open.ensures.0 c.in-Open.ensures.1
+            (subst (λ (s : Sizes). SpellsRecord (limits_of s).has_attributes c.in-Open.body.now did.0) sizes did.1)
             (subst (λ (s : Sizes). AppliesIn detail (limits_of s) back.0 did.0) sizes did.2) leads),
       );
   held = λ bodies left holds.
@@ -90,6 +92,7 @@ returns-in_err-cost-in-Open-clause-replays g c detail disk settled v w changes s
     let back = c.loop-body.invariant.leads detail disk settled v w changes shows has leads in
     let next = one_more detail limits c.args.records.now c.loop-body.rest.now changes back.0 w back.2 c.in-Open.body.now c.in-Open.after.now c.in-Open.ensures.0 c.in-Open.ensures.1 in
     let why = c.in_err-cost-in-Open.ensures.replays detail disk settled back.0 next.0.change (read.same disk shows)
-    (subst (λ (n : ℕ). HasVolumeIn detail n disk settled c.loop-body.inodes back.0) (sym read.count) back.1) next.0.spells
+    (subst (λ (n : ℕ). HasVolumeIn detail n disk settled c.loop-body.inodes back.0) (sym read.count) back.1)
+    (subst (λ (s : Sizes). SpellsRecord (limits_of s).has_attributes c.in-Open.body.now next.0.change) (sym c.loop-body.invariant.geometry) next.0.spells)
     (subst (λ (s : Sizes). AppliesIn detail (limits_of s) back.0 next.0.change) (sym c.loop-body.invariant.geometry) next.0.applies) in
     passed _ c.from_residual.result c.in_err-cost-in-Open.field-0.0 (search rules) why

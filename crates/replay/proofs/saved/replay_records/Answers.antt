@@ -65,7 +65,7 @@ returns-clause-replays g c detail disk settled v w changes nvram shows has tells
       subst (λ (e : LogEnd). StandsBehind e c.args.saved.generation nvram (bodies_of changes)) (sym c.into_log.ensures.end)
           (subst (StandsBehind (end_of c.args.saved c.in_ok-first.first.left c.in_ok-second.second.left) c.args.saved.generation nvram) (sym (joined_bodies changes both.one both.two both.joined)) stands),
       subst (λ (k : ℕ). HasVolumeIn detail k disk settled c.drop_orphans.new.inodes (without_orphans w)) (again.count ∙ read.count) swept,
-      omega (arith, mid.0.cost, end.0.cost, ap (cost_of_all limits.costs v) both.joined, costs_joined detail limits limits.costs both.one both.two v both.mid both.leads.replays),
+      omega (arith, mid.0.cost, end.0.cost, ap (λ (s : Sizes). cost_of_all (limits_of s).costs both.mid both.two) c.in_ok-first.ensures.geometry, ap (cost_of_all limits.costs v) both.joined, costs_joined detail limits limits.costs both.one both.two v both.mid both.leads.replays),
       λ base. omega (arith, mid.2 base, end.2 base, c.in_ok-drop_orphans.ensures.room detail base disk settled w (again.same disk (read.same disk shows)) stands_on),
     )
 

@@ -23,9 +23,12 @@ returns-in_err-fd-in-Lseek c = at_form file_form command_words IsCommandInForm (
 pub returns-in_err-fd-in-Ftruncate : goal.returns-in_err-fd-in-Ftruncate
 returns-in_err-fd-in-Ftruncate c = at_form file_form command_words IsCommandInForm (λ v. verb_name v ∷ []) c.args.verb verb.Ftruncate (map (λ word. word.now) c.args.words.now) c.from_residual-in_err-fd-in-Ftruncate.result c.in-Ftruncate.is (search rules)
 
+pub returns-in_err-fd-in-Fchmod : goal.returns-in_err-fd-in-Fchmod
+returns-in_err-fd-in-Fchmod c = at_form file_form command_words IsCommandInForm (λ v. verb_name v ∷ []) c.args.verb verb.Fchmod (map (λ word. word.now) c.args.words.now) c.from_residual-in_err-fd-in-Fchmod.result c.in-Fchmod.is (search rules)
+
 pub returns-in_default : goal.returns-in_default
 returns-in_default c = record {
   spelled = tt;
   good = tt;
-  refused = λ _ vs _ _. not_file c.args.verb c.in_default.not-Read c.in_default.not-Write c.in_default.not-Pread c.in_default.not-Pwrite c.in_default.not-Lseek c.in_default.not-Ftruncate vs;
+  refused = λ _ vs _ _. not_file c.args.verb c.in_default.not-Read c.in_default.not-Write c.in_default.not-Pread c.in_default.not-Pwrite c.in_default.not-Lseek c.in_default.not-Ftruncate c.in_default.not-Fchmod vs;
 }

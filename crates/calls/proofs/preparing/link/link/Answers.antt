@@ -15,7 +15,7 @@ returns-in-Some g c =
     let errno = c.in-Some.errno in
     let is : first_refusal (text_tests (limits_of c.args.inodes.now.geometry) old) ≡ Some errno = sym c.refusal_of_path.ensures ∙ c.in-Some.is in
     refuses no_look (text_own (limits_of c.args.inodes.now.geometry) old errno is)
-    (λ disk settled v table stands volume mounted. link_tests_refused (limits_of c.args.inodes.now.geometry) v table old path errno (first_in_front (text_tests (limits_of c.args.inodes.now.geometry) old) (new_text_tests (limits_of c.args.inodes.now.geometry) path) errno is))
+    (λ disk settled v table stands volume mounted. link_tests_refused (limits_of c.args.inodes.now.geometry) c.args.now v table old path errno (first_in_front (text_tests (limits_of c.args.inodes.now.geometry) old) (new_text_tests (limits_of c.args.inodes.now.geometry) path) errno is))
 
 pub returns-in-Some-refusal_of_new_path : goal.returns-in-Some-refusal_of_new_path
 returns-in-Some-refusal_of_new_path g c =
@@ -25,4 +25,4 @@ returns-in-Some-refusal_of_new_path g c =
     let passed : first_refusal (text_tests (limits_of c.args.inodes.now.geometry) old) ≡ None = search rules in
     let is : first_refusal (new_text_tests (limits_of c.args.inodes.now.geometry) path) ≡ Some errno = sym c.refusal_of_new_path.ensures ∙ c.in-Some-refusal_of_new_path.is in
     refuses no_look (new_text_own (limits_of c.args.inodes.now.geometry) path errno is)
-    (λ disk settled v table stands volume mounted. link_tests_refused (limits_of c.args.inodes.now.geometry) v table old path errno (first_append (text_tests (limits_of c.args.inodes.now.geometry) old) (new_text_tests (limits_of c.args.inodes.now.geometry) path) passed ∙ is))
+    (λ disk settled v table stands volume mounted. link_tests_refused (limits_of c.args.inodes.now.geometry) c.args.now v table old path errno (first_append (text_tests (limits_of c.args.inodes.now.geometry) old) (new_text_tests (limits_of c.args.inodes.now.geometry) path) passed ∙ is))

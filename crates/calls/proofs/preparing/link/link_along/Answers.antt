@@ -16,7 +16,7 @@ pub returns-in_err-number : goal.returns-in_err-number
 returns-in_err-number g c = passes _ c.from_residual.result c.from_residual.ensures.1 c.in_err-number.ensures
     (λ disk settled v table stands volume mounted errno.
     let limits = limits_of c.args.inodes.now.geometry in
-    link_nowhere limits v table volume mounted (c.volumes_are_trees.ensures limits v table volume mounted) c.args.old.now c.args.path.now c.requires.passed errno)
+    link_nowhere limits c.args.now v table volume mounted (c.volumes_are_trees.ensures limits v table volume mounted) c.args.old.now c.args.path.now c.requires.passed errno)
 
 pub returns-in_err-found : goal.returns-in_err-found
 returns-in_err-found g c =
@@ -33,5 +33,5 @@ returns-in_default g c = refuses (looks_more c.in_ok-number.ensures.looks c.in_o
     let old = c.args.old.now in
     let n = c.in_ok-number.number in
     let found = c.in_ok-found.ensures.found disk settled v (c.find_object.ensures.looks.kept disk settled v stands) in
-    link_no_file limits v table volume mounted (c.volumes_are_trees.ensures limits v table volume mounted) old c.args.path.now c.requires.passed n
+    link_no_file limits c.args.now v table volume mounted (c.volumes_are_trees.ensures limits v table volume mounted) old c.args.path.now c.requires.passed n
     (c.in_ok-number.ensures.leads disk settled v table stands volume) (found_other (v n) (λ is. c.in_default.not-File (found ∙ is))))

@@ -1,7 +1,7 @@
 use Rattle.std.proofs.Common.{◌≡◌, ℕ, false, None, refl, subst}
 use Rattle.layout.specs.StateLimits.{limits_of}
 use Rattle.model.specs.Paths.{first_refusal, new_text_tests, text_tests}
-use Rattle.model.specs.Records.{link}
+use Rattle.model.specs.Records.{link, stamped}
 use Rattle.model.specs.Volumes.{tree_of}
 use Rattle.model.proofs.LeadLemmas.{passed_both}
 use Rattle.paths.specs.Places.{IsPlaceWithin}
@@ -33,8 +33,8 @@ returns-in-Missing g c = follows c.in_ok-place.ensures.looks c.link_in.ensures (
     let (r, reaches, at) = subst (LeadsAt t v false path) c.in-Missing.is (c.in_ok-place.ensures.found disk settled v table stands volume (level (limits_of c.args.inodes.now.geometry) path passed)) in
     let name = c.in-Missing.name.items in
     let gap = finds_gap limits v table volume mounted tree c.in-Missing.trail name r (new_text_well limits t tree path passed r reaches) at in
-    link_comes limits v table volume mounted tree old path c.requires.passed n file.0 count file.1 file.2 leads r reaches c.records_change_trees.ensures c.volumes_tell_links.ensures _ name gap told
-    (subst (λ (d : ℕ). Decides limits v (link n d name) told) c.here.ensures links))
+    link_comes limits c.args.now v table volume mounted tree old path c.requires.passed n file.0 count file.1 file.2 leads r reaches c.records_change_trees.ensures c.volumes_tell_links.ensures _ name gap told
+    (subst (λ (d : ℕ). Decides limits v (stamped c.args.now (link n d name)) told) c.here.ensures links))
 
 pub returns-in-Refusal : goal.returns-in-Refusal
 returns-in-Refusal g c = refuses c.in_ok-place.ensures.looks
@@ -45,7 +45,7 @@ returns-in-Refusal g c = refuses c.in_ok-place.ensures.looks
     let path = c.args.path.now in
     let passed = (passed_both (text_tests (limits_of c.args.inodes.now.geometry) old) (new_text_tests (limits_of c.args.inodes.now.geometry) path) c.requires.passed).1 in
     let (r, reaches, at) = subst (LeadsAt (tree_of v table) v false path) c.in-Refusal.is (c.in_ok-place.ensures.found disk settled v table stands volume (level (limits_of c.args.inodes.now.geometry) path passed)) in
-    link_target_refused limits v table volume mounted (c.volumes_are_trees.ensures limits v table volume mounted) old path c.requires.passed
+    link_target_refused limits c.args.now v table volume mounted (c.volumes_are_trees.ensures limits v table volume mounted) old path c.requires.passed
     c.args.number file.0 count file.1 file.2 leads r reaches c.in-Refusal.errno at)
 
 pub returns-in-Directory : goal.returns-in-Directory
@@ -56,7 +56,7 @@ returns-in-Directory g c = refuses c.in_ok-place.ensures.looks refl (λ disk set
     let path = c.args.path.now in
     let passed = (passed_both (text_tests (limits_of c.args.inodes.now.geometry) old) (new_text_tests (limits_of c.args.inodes.now.geometry) path) c.requires.passed).1 in
     let (r, reaches, at) = subst (LeadsAt (tree_of v table) v false path) c.in-Directory.is (c.in_ok-place.ensures.found disk settled v table stands volume (level (limits_of c.args.inodes.now.geometry) path passed)) in
-    link_exists limits v table volume mounted (c.volumes_are_trees.ensures limits v table volume mounted) old path c.requires.passed
+    link_exists limits c.args.now v table volume mounted (c.volumes_are_trees.ensures limits v table volume mounted) old path c.requires.passed
     c.args.number file.0 count file.1 file.2 leads r reaches _ (leads_directory limits v volume c.in-Directory._trail r at))
 
 pub returns-in-Entry : goal.returns-in-Entry
@@ -67,5 +67,5 @@ returns-in-Entry g c = refuses c.in_ok-place.ensures.looks refl (λ disk settled
     let path = c.args.path.now in
     let passed = (passed_both (text_tests (limits_of c.args.inodes.now.geometry) old) (new_text_tests (limits_of c.args.inodes.now.geometry) path) c.requires.passed).1 in
     let (r, reaches, at) = subst (LeadsAt (tree_of v table) v false path) c.in-Entry.is (c.in_ok-place.ensures.found disk settled v table stands volume (level (limits_of c.args.inodes.now.geometry) path passed)) in
-    link_exists limits v table volume mounted (c.volumes_are_trees.ensures limits v table volume mounted) old path c.requires.passed
+    link_exists limits c.args.now v table volume mounted (c.volumes_are_trees.ensures limits v table volume mounted) old path c.requires.passed
     c.args.number file.0 count file.1 file.2 leads r reaches c.in-Entry._number (leads_entry limits v volume c.in-Entry._trail c.in-Entry._name.items c.in-Entry._number r at))

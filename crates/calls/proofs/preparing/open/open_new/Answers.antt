@@ -1,7 +1,7 @@
 use Rattle.std.proofs.Common.{◌∙◌, ℕ, Err, IfOk, inl, inr, refl, ap, subst}
 use Rattle.std.proofs.lemmas.Bool.{not-false, not-true}
 use Rattle.layout.specs.StateLimits.{limits_of}
-use Rattle.model.specs.Records.{create, file}
+use Rattle.model.specs.Records.{Change, create, file, stamped}
 use Rattle.records.specs.Failures.{read_outcome}
 use Rattle.records.specs.declared.failure.Failure.{Failure}
 use Rattle.records.proofs.StandLaws.{no_look}
@@ -19,7 +19,7 @@ returns-in_err-changing-clause-opens g c =
     let made = c.in_err-changing.ensures.prepares in
     fails {X = Changing} _ c.from_residual.result c.from_residual.ensures.1 made.looks made.own made.damaged (λ disk settled v table stands volume mounted errno is. inr (
       not-false c.args.flags.creates c.if-not-flags.false,
-      subst (λ (f : Failure). IfOk (read_outcome {T = Changing} (Err f)) (MakesIn (limits_of c.args.inodes.now.geometry) v c.args.parent c.args.name.items (file c.args.mode))) is
+      subst (λ (f : Failure). IfOk (read_outcome {T = Changing} (Err f)) (MakesIn (limits_of c.args.inodes.now.geometry) c.args.now v c.args.parent c.args.name.items (file c.args.mode))) is
           (made.answers disk settled v table stands volume mounted),
     ))
 
@@ -29,10 +29,10 @@ unreachable-requires g c = c.in_default.ensures.none c.in_ok-changing.ensures.cr
 pub returns-clause-opens : goal.returns-clause-opens
 returns-clause-opens g c =
     let prepares = c.in_ok-changing.ensures.prepares in
-    grants prepares.looks prepares.ready prepares.does (λ disk settled v table stands volume mounted.
+    grants prepares.looks prepares.ready prepares.timed prepares.does (λ disk settled v table stands volume mounted.
     let d = c.args.parent in
     let x = c.args.name.items in
     let what = file c.args.mode in
     let makes = prepares.answers disk settled v table stands volume mounted in
-    let same = created_number c.in_ok-changing.changing.change c.in-Some.number d makes.0 what x c.in-Some.ensures.some makes.1 in
-    (not-false c.args.flags.creates c.if-not-flags.false, (makes, makes.1 ∙ ap (λ (k : ℕ). create k d what x) same, refl, refl, refl)))
+    let same = created_number c.in_ok-changing.changing.change c.in-Some.number d makes.0 what x c.in-Some.ensures.some (ap (λ (h : Change). h.edit) makes.1) in
+    (not-false c.args.flags.creates c.if-not-flags.false, (makes, makes.1 ∙ ap (λ (k : ℕ). stamped c.args.now (create k d what x)) same, refl, refl, refl)))

@@ -30,4 +30,4 @@ returns g c =
     (λ disk settled v stands names. subst (λ (k : ℕ). MovesOver v d x n k y c.args.target) (sym is) names)
     (λ disk settled v table stands volume mounted names told records moves.
     let outside : IsBelow (entries v) n (here c.args.trail) → ⊥ = λ below. false≢true (sym c.if-below.false ∙ (c.in_ok-below.ensures.below disk settled v stands x volume names.there moves.tells).1 below) in
-    subst (λ (k : ℕ). MovesName (limits_of c.args.inodes.now.geometry) v d x k y told) is (records (subst (λ (k : ℕ). IsBelow (entries v) n k → ⊥) (sym is) outside)))
+    subst (λ (k : ℕ). MovesName (limits_of c.args.inodes.now.geometry) c.args.now v d x k y told) is (records (subst (λ (k : ℕ). IsBelow (entries v) n k → ⊥) (sym is) outside)))

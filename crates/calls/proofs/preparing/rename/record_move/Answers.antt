@@ -1,6 +1,6 @@
 use Rattle.std.proofs.Common.{◌≡◌, ◌∙◌, ℕ, List, inl, inr, ap, refl, sym, subst}
 use Rattle.layout.specs.StateLimits.{limits_of}
-use Rattle.model.specs.Records.{Applies, Change, rename}
+use Rattle.model.specs.Records.{Applies, Change, rename, stamped}
 use Rattle.model.specs.Volumes.{Volume, entries}
 use Rattle.model.proofs.OptionLaws.{some_or_none}
 use Rattle.records.specs.Moving.{MovesOver}
@@ -25,8 +25,9 @@ returns-in_err-prepared g c =
     let k = c.args.new_parent in
     let x = c.deref.ensures.value ∙ c.in-Some.ensures.some in
     let y = c.deref-2.ensures.value ∙ c.in-Some-new.ensures.some in
-    let same : rename d c.deref.result.now k c.deref-2.result.now ≡ rename d c.args.name.items k c.args.new_name.items =
-    ap (λ (z : List ℕ). rename d z k c.deref-2.result.now) x ∙ ap (rename d c.args.name.items k) y in
+    let said = λ (z w : List ℕ). stamped c.args.now (rename d z k w) in
+    let same : said c.deref.result.now c.deref-2.result.now ≡ said c.args.name.items c.args.new_name.items =
+    ap (λ (z : List ℕ). said z c.deref-2.result.now) x ∙ ap (said c.args.name.items) y in
     let over = λ (v : Volume) (names : MovesOver v d c.args.name.items c.args.number k c.args.new_name.items c.args.target).
     subst (λ (z : List ℕ). MovesOver v d z c.args.number k c.deref-2.result.now c.args.target) (sym x)
     (subst (λ (w : List ℕ). MovesOver v d c.args.name.items c.args.number k w c.args.target) (sym y) names) in
@@ -39,15 +40,16 @@ returns g c =
     let k = c.args.new_parent in
     let x = c.deref.ensures.value ∙ c.in-Some.ensures.some in
     let y = c.deref-2.ensures.value ∙ c.in-Some-new.ensures.some in
-    let same : rename d c.deref.result.now k c.deref-2.result.now ≡ rename d c.args.name.items k c.args.new_name.items =
-    ap (λ (z : List ℕ). rename d z k c.deref-2.result.now) x ∙ ap (rename d c.args.name.items k) y in
+    let said = λ (z w : List ℕ). stamped c.args.now (rename d z k w) in
+    let same : said c.deref.result.now c.deref-2.result.now ≡ said c.args.name.items c.args.new_name.items =
+    ap (λ (z : List ℕ). said z c.deref-2.result.now) x ∙ ap (said c.args.name.items) y in
     let new_name = c.in-Some-new.new_name.bytes.items in
-    let says : rename d c.in-Some.name.bytes.items k new_name ≡ rename d c.deref.result.now k c.deref-2.result.now =
-    ap (λ (z : List ℕ). rename d z k new_name) (sym c.deref.ensures.value) ∙ ap (rename d c.deref.result.now k) (sym c.deref-2.ensures.value) in
+    let says : said c.in-Some.name.bytes.items new_name ≡ said c.deref.result.now c.deref-2.result.now =
+    ap (λ (z : List ℕ). said z new_name) (sym c.deref.ensures.value) ∙ ap (said c.deref.result.now) (sym c.deref-2.ensures.value) in
     let over = λ (v : Volume) (names : MovesOver v d c.args.name.items c.args.number k c.args.new_name.items c.args.target).
     subst (λ (z : List ℕ). MovesOver v d z c.args.number k c.deref-2.result.now c.args.target) (sym x)
     (subst (λ (w : List ℕ). MovesOver v d c.args.name.items c.args.number k w c.args.target) (sym y) names) in
-    rw c.note_move.ensures (granted_knowing _ c.in_ok-prepared.ensures says (λ disk settled v stands names. (stands, over v names))
+    rw c.note_move.ensures (granted_knowing _ c.in_ok-prepared.ensures says refl (λ disk settled v stands names. (stands, over v names))
     (λ disk settled v table stands volume names applies outside. (
       says ∙ same,
       subst (Applies (limits_of c.args.inodes.now.geometry) v) same (applies (stands, over v names, outside)),

@@ -38,9 +38,9 @@ returns-in-Directory g c = refuses c.in_ok-place.ensures.looks refl (λ disk set
 pub returns-in-Refusal : goal.returns-in-Refusal
 returns-in-Refusal g c = finds_none c.in_ok-place.ensures (level (limits_of c.args.inodes.now.geometry) c.args.old.now c.requires.passed.old_passed) (ap led_of c.in-Refusal.is) (λ disk settled v table stands volume mounted.
     let limits = limits_of c.args.inodes.now.geometry in
-    rename_nowhere limits v table volume mounted (c.volumes_are_trees.ensures limits v table volume mounted) c.args.only_new c.args.old.now c.args.path.now c.requires.passed _)
+    rename_nowhere limits c.args.now v table volume mounted (c.volumes_are_trees.ensures limits v table volume mounted) c.args.only_new c.args.old.now c.args.path.now c.requires.passed _)
 
 pub returns-in-Missing : goal.returns-in-Missing
 returns-in-Missing g c = finds_none c.in_ok-place.ensures (level (limits_of c.args.inodes.now.geometry) c.args.old.now c.requires.passed.old_passed) (ap led_of c.in-Missing.is) (λ disk settled v table stands volume mounted.
     let limits = limits_of c.args.inodes.now.geometry in
-    rename_nowhere limits v table volume mounted (c.volumes_are_trees.ensures limits v table volume mounted) c.args.only_new c.args.old.now c.args.path.now c.requires.passed _)
+    rename_nowhere limits c.args.now v table volume mounted (c.volumes_are_trees.ensures limits v table volume mounted) c.args.only_new c.args.old.now c.args.path.now c.requires.passed _)

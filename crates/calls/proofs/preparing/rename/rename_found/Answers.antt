@@ -46,12 +46,12 @@ returns-then-only_new g c = whatever (refuses c.in_ok-place.ensures.looks refl (
     let finds = finds_entry v c.args.trail c.args.name.items c.args.number from place in
     let (to, reaches, at) = subst (LeadsAt (tree_of v table) v false path) c.in-Entry.is (c.in_ok-place.ensures.found disk settled v table stands volume (level (limits_of c.args.inodes.now.geometry) path passed.passed)) in
     let m = c.in-Entry.other in
-    rename_exists limits v table volume mounted tree c.args.only_new c.args.old.now path passed c.records_change_trees.ensures from begins to reaches (here c.args.trail) c.args.name.items c.args.number finds
+    rename_exists limits c.args.now v table volume mounted tree c.args.only_new c.args.old.now path passed c.records_change_trees.ensures from begins to reaches (here c.args.trail) c.args.name.items c.args.number finds
     c.if-only_new.true m (leads_entry limits v volume c.in-Entry.above c.in-Entry.new_name.items m to at)))
 
 -- the object has the name already
 pub returns-then-get : goal.returns-then-get
-returns-then-get g c = whatever (grants c.in_ok-place.ensures.looks tt (λ disk settled v stands. tt) (λ disk settled v table stands volume mounted there from begins place.
+returns-then-get g c = whatever (grants c.in_ok-place.ensures.looks tt tt (λ disk settled v stands. tt) (λ disk settled v table stands volume mounted there from begins place.
     let limits = limits_of c.args.inodes.now.geometry in
     let path = c.args.path.now in
     let passed = c.requires.passed in
@@ -61,8 +61,8 @@ returns-then-get g c = whatever (grants c.in_ok-place.ensures.looks tt (λ disk 
     let above = c.in-Entry.above in
     let y = c.in-Entry.new_name.items in
     let m = c.in-Entry.other in
-    let ends = ends_entry limits v table volume mounted tree c.args.only_new above y m to c.if-only_new.false at in
-    rename_stays limits v table volume mounted tree c.args.only_new c.args.old.now path passed c.records_change_trees.ensures from begins to reaches (here c.args.trail) c.args.name.items c.args.number finds
+    let ends = ends_entry limits c.args.now v table volume mounted tree c.args.only_new above y m to c.if-only_new.false at in
+    rename_stays limits c.args.now v table volume mounted tree c.args.only_new c.args.old.now path passed c.records_change_trees.ensures from begins to reaches (here c.args.trail) c.args.name.items c.args.number finds
     c.numbers_tell_what_lies_below.ensures (here above) y ends ((finds_entry v above y m to at).edge ∙ ap (λ (j : ℕ). Some j) (sym c.get.ensures ∙ c.if-get.true ∙ c.get-in-Entry.ensures))))
 
 pub returns-in-Entry : goal.returns-in-Entry
@@ -84,13 +84,13 @@ returns-in-Entry g c = follows_knowing c.in_ok-place.ensures.looks c.move_name.e
     let above = c.in-Entry.above in
     let y = c.in-Entry.new_name.items in
     let m = c.in-Entry.other in
-    let ends = ends_entry limits v table volume mounted tree c.args.only_new above y m to c.if-only_new.false at in
-    let along = along_entry limits v table volume mounted tree c.numbers_tell_what_lies_below.ensures c.trails_tell_what_lies_below.ensures from (here c.args.trail) x n finds
+    let ends = ends_entry limits c.args.now v table volume mounted tree c.args.only_new above y m to c.if-only_new.false at in
+    let along = along_entry limits c.args.now v table volume mounted tree c.numbers_tell_what_lies_below.ensures c.trails_tell_what_lies_below.ensures from (here c.args.trail) x n finds
     c.is_rooted-rooted.result (resolve t false path) above y m (finds_entry v above y m to at).edge (λ e. c.if-get.false (c.get.ensures ∙ e ∙ sym c.get-in-Entry.ensures))
     (λ is. subst (λ p. IsPlaceOf v (model_place_of p) (resolve t false path)) c.in-Entry.is (c.in_ok-place.ensures.rooted disk settled v table stands volume (from_root path (sym c.is_rooted-rooted.ensures ∙ is)))) in
-    rename_comes limits v table volume mounted tree c.args.only_new c.args.old.now path passed c.records_change_trees.ensures from begins to reaches (here c.args.trail) x n finds
+    rename_comes limits c.args.now v table volume mounted tree c.args.only_new c.args.old.now path passed c.records_change_trees.ensures from begins to reaches (here c.args.trail) x n finds
     c.numbers_tell_what_lies_below.ensures (here above) y ends along.other told
-    (subst (λ (d : ℕ). MovesName limits v d x (here above) y told) c.here-parent.ensures (moves along)))
+    (subst (λ (d : ℕ). MovesName limits c.args.now v d x (here above) y told) c.here-parent.ensures (moves along)))
 
 pub returns-in-Missing : goal.returns-in-Missing
 returns-in-Missing g c = follows_knowing c.in_ok-place.ensures.looks c.move_name-in-Missing.ensures
@@ -110,14 +110,14 @@ returns-in-Missing g c = follows_knowing c.in_ok-place.ensures.looks c.move_name
     let (to, reaches, at) = subst (LeadsAt t v false path) c.in-Missing.is (c.in_ok-place.ensures.found disk settled v table stands volume (level (limits_of c.args.inodes.now.geometry) path passed.passed)) in
     let above = c.in-Missing.above in
     let y = c.in-Missing.new_name.items in
-    let ends = ends_gap limits v table volume mounted tree c.args.only_new above y to (new_text_well limits t tree path passed.passed to reaches) at in
+    let ends = ends_gap limits c.args.now v table volume mounted tree c.args.only_new above y to (new_text_well limits t tree path passed.passed to reaches) at in
     let none = subst (λ p. TellsName v (model_place_of p)) c.in-Missing.is (c.in_ok-place.ensures.tells disk settled v stands) in
-    let along = along_gap limits v table volume mounted tree c.numbers_tell_what_lies_below.ensures c.trails_tell_what_lies_below.ensures from (here c.args.trail) x n finds
+    let along = along_gap limits c.args.now v table volume mounted tree c.numbers_tell_what_lies_below.ensures c.trails_tell_what_lies_below.ensures from (here c.args.trail) x n finds
     c.is_rooted-rooted.result (resolve t false path) above y ends.directory ends.good none
     (λ is. subst (λ p. IsPlaceOf v (model_place_of p) (resolve t false path)) c.in-Missing.is (c.in_ok-place.ensures.rooted disk settled v table stands volume (from_root path (sym c.is_rooted-rooted.ensures ∙ is)))) in
-    rename_comes limits v table volume mounted tree c.args.only_new c.args.old.now path passed c.records_change_trees.ensures from begins to reaches (here c.args.trail) x n finds
+    rename_comes limits c.args.now v table volume mounted tree c.args.only_new c.args.old.now path passed c.records_change_trees.ensures from begins to reaches (here c.args.trail) x n finds
     c.numbers_tell_what_lies_below.ensures (here above) y ends along.other told
-    (subst (λ (d : ℕ). MovesName limits v d x (here above) y told) c.here-parent.ensures (moves along)))
+    (subst (λ (d : ℕ). MovesName limits c.args.now v d x (here above) y told) c.here-parent.ensures (moves along)))
 
 pub returns-in-Directory : goal.returns-in-Directory
 returns-in-Directory g c = whatever (refuses c.in_ok-place.ensures.looks refl (λ disk settled v table stands volume mounted there from begins place.
@@ -133,5 +133,5 @@ returns-in-Refusal g c = whatever (refuses c.in_ok-place.ensures.looks
     let tree = c.volumes_are_trees.ensures limits v table volume mounted in
     let finds = finds_entry v c.args.trail c.args.name.items c.args.number from place in
     let (to, reaches, at) = subst (LeadsAt (tree_of v table) v false path) c.in-Refusal.is (c.in_ok-place.ensures.found disk settled v table stands volume (level (limits_of c.args.inodes.now.geometry) path passed.passed)) in
-    target_refused limits v table volume mounted tree c.args.only_new c.args.old.now path passed c.records_change_trees.ensures from begins to reaches (here c.args.trail) c.args.name.items c.args.number finds
+    target_refused limits c.args.now v table volume mounted tree c.args.only_new c.args.old.now path passed c.records_change_trees.ensures from begins to reaches (here c.args.trail) c.args.name.items c.args.number finds
     c.in-Refusal.errno at))

@@ -19,13 +19,13 @@ pub returns-in-Some : goal.returns-in-Some
 returns-in-Some g c =
     let is : first_refusal (new_text_tests (limits_of c.args.inodes.now.geometry) c.args.path.now) ≡ Some c.in-Some.errno = sym c.refusal_of_new_path.ensures ∙ c.in-Some.is in
     refuses no_look (new_text_own (limits_of c.args.inodes.now.geometry) c.args.path.now c.in-Some.errno is)
-    (λ disk settled v table stands volume mounted. remove_refused (limits_of c.args.inodes.now.geometry) v table c.args.path.now c.in-Some.errno is)
+    (λ disk settled v table stands volume mounted. remove_refused (limits_of c.args.inodes.now.geometry) c.args.now v table c.args.path.now c.in-Some.errno is)
 
 pub returns-then-is_root : goal.returns-then-is_root
 returns-then-is_root g c =
     let passed : first_refusal (new_text_tests (limits_of c.args.inodes.now.geometry) c.args.path.now) ≡ None = search rules in
     refuses no_look refl
-    (λ disk settled v table stands volume mounted. remove_root (limits_of c.args.inodes.now.geometry) v table c.args.path.now passed (sym c.is_root.ensures ∙ c.if-is_root.true))
+    (λ disk settled v table stands volume mounted. remove_root (limits_of c.args.inodes.now.geometry) c.args.now v table c.args.path.now passed (sym c.is_root.ensures ∙ c.if-is_root.true))
 
 pub resolve_place-requires-clause-named : goal.resolve_place-requires-clause-named
 resolve_place-requires-clause-named g c =
@@ -44,8 +44,8 @@ returns-in-Entry g c = follows c.in_ok-place.ensures.looks c.remove_entry.ensure
     let (r, reaches, at) = subst (LeadsAt (tree_of v table) v false text) c.in-Entry.is (c.in_ok-place.ensures.found disk settled v table stands volume (level (limits_of c.args.inodes.now.geometry) text passed)) in
     let name = c.in-Entry.name.items in
     let n = c.in-Entry.number in
-    remove_comes limits v table volume mounted (c.volumes_are_trees.ensures limits v table volume mounted) c.records_change_trees.ensures text passed not_root r reaches _ name n
-    (finds_entry v c.in-Entry.trail name n r at) y (subst (λ (d : ℕ). RemovesDirectory limits v d name n y) c.here.ensures told))
+    remove_comes limits c.args.now v table volume mounted (c.volumes_are_trees.ensures limits v table volume mounted) c.records_change_trees.ensures text passed not_root r reaches _ name n
+    (finds_entry v c.in-Entry.trail name n r at) y (subst (λ (d : ℕ). RemovesDirectory limits c.args.now v d name n y) c.here.ensures told))
 
 pub returns-in-Directory : goal.returns-in-Directory
 returns-in-Directory g c = refuses c.in_ok-place.ensures.looks refl (λ disk settled v table stands volume mounted.
@@ -59,7 +59,7 @@ returns-in-Refusal g c =
     let not_root : IsFalse (is_root_text c.args.path.now) = search rules in
     finds_none c.in_ok-place.ensures (level (limits_of c.args.inodes.now.geometry) c.args.path.now passed) (ap led_of c.in-Refusal.is) (λ disk settled v table stands volume mounted.
     let limits = limits_of c.args.inodes.now.geometry in
-    remove_led_nowhere limits v table volume mounted (c.volumes_are_trees.ensures limits v table volume mounted) c.records_change_trees.ensures c.args.path.now passed not_root _)
+    remove_led_nowhere limits c.args.now v table volume mounted (c.volumes_are_trees.ensures limits v table volume mounted) c.records_change_trees.ensures c.args.path.now passed not_root _)
 
 pub returns-in-Missing : goal.returns-in-Missing
 returns-in-Missing g c =
@@ -67,4 +67,4 @@ returns-in-Missing g c =
     let not_root : IsFalse (is_root_text c.args.path.now) = search rules in
     finds_none c.in_ok-place.ensures (level (limits_of c.args.inodes.now.geometry) c.args.path.now passed) (ap led_of c.in-Missing.is) (λ disk settled v table stands volume mounted.
     let limits = limits_of c.args.inodes.now.geometry in
-    remove_led_nowhere limits v table volume mounted (c.volumes_are_trees.ensures limits v table volume mounted) c.records_change_trees.ensures c.args.path.now passed not_root _)
+    remove_led_nowhere limits c.args.now v table volume mounted (c.volumes_are_trees.ensures limits v table volume mounted) c.records_change_trees.ensures c.args.path.now passed not_root _)

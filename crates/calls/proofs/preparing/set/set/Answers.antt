@@ -15,7 +15,7 @@ pub returns-in-Some : goal.returns-in-Some
 returns-in-Some g c =
     let is : first_refusal (text_tests (limits_of c.args.inodes.now.geometry) c.args.path.now) ≡ Some c.in-Some.errno = sym c.refusal_of_path.ensures ∙ c.in-Some.is in
     refuses no_look (text_own (limits_of c.args.inodes.now.geometry) c.args.path.now c.in-Some.errno is)
-    (λ disk settled v table stands volume mounted. set_refused (limits_of c.args.inodes.now.geometry) v table c.args.path.now c.args.settings c.in-Some.errno (text_first (limits_of c.args.inodes.now.geometry) c.args.path.now (given_size_tests (limits_of c.args.inodes.now.geometry) c.args.settings.size) c.in-Some.errno is))
+    (λ disk settled v table stands volume mounted. set_refused (limits_of c.args.inodes.now.geometry) c.args.now v table c.args.path.now c.args.settings c.in-Some.errno (text_first (limits_of c.args.inodes.now.geometry) c.args.path.now (given_size_tests (limits_of c.args.inodes.now.geometry) c.args.settings.size) c.in-Some.errno is))
 
 pub returns-in-Some-refusal_of_given_size : goal.returns-in-Some-refusal_of_given_size
 returns-in-Some-refusal_of_given_size g c =
@@ -23,7 +23,7 @@ returns-in-Some-refusal_of_given_size g c =
     let errno = c.in-Some-refusal_of_given_size.errno in
     let is : first_refusal (given_size_tests (limits_of c.args.inodes.now.geometry) c.args.settings.size) ≡ Some errno = sym (by_limits (λ (l : Limits). given_size_tests l c.args.settings.size) c.limits.ensures c.refusal_of_given_size.ensures) ∙ c.in-Some-refusal_of_given_size.is in
     refuses no_look (given_size_own (limits_of c.args.inodes.now.geometry) c.args.settings.size errno is)
-    (λ disk settled v table stands volume mounted. set_refused (limits_of c.args.inodes.now.geometry) v table c.args.path.now c.args.settings errno (text_before (limits_of c.args.inodes.now.geometry) c.args.path.now (given_size_tests (limits_of c.args.inodes.now.geometry) c.args.settings.size) none ∙ is))
+    (λ disk settled v table stands volume mounted. set_refused (limits_of c.args.inodes.now.geometry) c.args.now v table c.args.path.now c.args.settings errno (text_before (limits_of c.args.inodes.now.geometry) c.args.path.now (given_size_tests (limits_of c.args.inodes.now.geometry) c.args.settings.size) none ∙ is))
 
 pub set_along-requires-clause-passed : goal.set_along-requires-clause-passed
 set_along-requires-clause-passed g c =

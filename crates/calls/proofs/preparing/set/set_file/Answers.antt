@@ -22,5 +22,5 @@ returns-in-None g c = leaves c.set_mode.ensures (λ disk settled v table stands 
 pub returns-in-Some : goal.returns-in-Some
 returns-in-Some g c = leaves c.set_size.ensures (λ disk settled v table stands volume mounted r given is.
     let few = subst (λ (o : Option ℤ). IfSome o (λ size. nat_abs size ≤ (limits_of c.args.inodes.now.geometry).file_bytes)) c.in-Some.is c.requires.within in
-    rw c.in-Some.is (subst (λ (z : ℤ). ComesOrStays (sets_file (tree_of v table) c.args.number c.args.settings.mode (Some z)) (limits_of c.args.inodes.now.geometry) v table r)
+    rw c.in-Some.is (subst (λ (z : ℤ). ComesOrStays (sets_file c.args.now (tree_of v table) c.args.number c.args.settings.mode (Some z)) (limits_of c.args.inodes.now.geometry) v table r)
     (to_z-of_z w64 c.in-Some.size (size_fits (limits_of c.args.inodes.now.geometry) (limits_can_be c.args.inodes.now.geometry) c.in-Some.size few)) (given is)))

@@ -22,7 +22,7 @@ returns-in-File g c = follows c.in_ok-found.ensures.looks c.set_file.ensures (λ
     let limits = limits_of c.args.inodes.now.geometry in
     let n = c.args.number in
     let is = found_file (v n) (sym (c.in_ok-found.ensures.found disk settled v stands) ∙ c.in-File.is) in
-    subst (λ (x : Object). ComesOrStays (sets_object (tree_of v table) c.args.settings x) limits v table r) (file_object n (v n) o is object) (given is))
+    subst (λ (x : Object). ComesOrStays (sets_object c.args.now (tree_of v table) c.args.settings x) limits v table r) (file_object n (v n) o is object) (given is))
 
 pub returns-in_default : goal.returns-in_default
 returns-in_default g c = follows c.in_ok-found.ensures.looks c.set_directory.ensures (λ disk settled v table stands volume mounted r given o object plain.
@@ -30,4 +30,4 @@ returns-in_default g c = follows c.in_ok-found.ensures.looks c.set_directory.ens
     let n = c.args.number in
     let found = c.in_ok-found.ensures.found disk settled v stands in
     let is = directory_left n (v n) o (λ e. c.in_default.not-File (found ∙ e)) plain object in
-    subst (λ (x : Object). ComesOrStays (sets_object (tree_of v table) c.args.settings x) limits v table r) is.1 (given is.0))
+    subst (λ (x : Object). ComesOrStays (sets_object c.args.now (tree_of v table) c.args.settings x) limits v table r) is.1 (given is.0))

@@ -11,7 +11,7 @@ use Rattle.calls.proofs.preparing.store.store_along.Goals as goal
 pub returns-in_err-number : goal.returns-in_err-number
 returns-in_err-number g c = passes _ c.from_residual.result c.from_residual.ensures.1 c.in_err-number.ensures
     (λ disk settled v table stands volume mounted errno is.
-    store_nowhere (limits_of c.args.inodes.now.geometry) v table c.args.path.now c.args.offset c.args.bytes.now errno (inr (c.requires.passed, is)))
+    store_nowhere (limits_of c.args.inodes.now.geometry) c.args.now v table c.args.path.now c.args.offset c.args.bytes.now errno (inr (c.requires.passed, is)))
 
 pub returns-in_err-found : goal.returns-in_err-found
 returns-in_err-found g c =
@@ -23,12 +23,12 @@ returns-in-File g c = follows (looks_more c.in_ok-number.ensures.looks c.in_ok-f
     let n = c.in_ok-number.number in
     let place : c.unsigned_abs.result ≡ nat_abs c.args.offset = c.unsigned_abs.ensures.value ∙ ap nat_abs (to_z-of_z w64 c.args.offset c.ranges.offset) in
     let is = found_file (v n) (sym (c.in_ok-found.ensures.found disk settled v (c.find_object.ensures.looks.kept disk settled v stands)) ∙ c.in-File.is) in
-    store_comes limits v table c.args.path.now c.args.offset c.args.bytes.now n (c.requires.passed, c.in_ok-number.ensures.leads disk settled v table stands volume) is r
-    (subst (λ (k : ℕ). PutsInto limits v table n k c.args.bytes.now r) place (puts is)))
+    store_comes limits c.args.now v table c.args.path.now c.args.offset c.args.bytes.now n (c.requires.passed, c.in_ok-number.ensures.leads disk settled v table stands volume) is r
+    (subst (λ (k : ℕ). PutsInto limits c.args.now v table n k c.args.bytes.now r) place (puts is)))
 
 pub returns-in_default : goal.returns-in_default
 returns-in_default g c = refuses (looks_more c.in_ok-number.ensures.looks c.in_ok-found.ensures.looks) refl (λ disk settled v table stands volume mounted.
     let n = c.in_ok-number.number in
     let found = c.in_ok-found.ensures.found disk settled v (c.find_object.ensures.looks.kept disk settled v stands) in
-    store_directory (limits_of c.args.inodes.now.geometry) v table c.args.path.now c.args.offset c.args.bytes.now n (c.requires.passed, c.in_ok-number.ensures.leads disk settled v table stands volume)
+    store_directory (limits_of c.args.inodes.now.geometry) c.args.now v table c.args.path.now c.args.offset c.args.bytes.now n (c.requires.passed, c.in_ok-number.ensures.leads disk settled v table stands volume)
     (c.in_ok-number.ensures.followed disk settled v stands volume refl) (found_other (v n) (λ e. c.in_default.not-File (found ∙ e))))

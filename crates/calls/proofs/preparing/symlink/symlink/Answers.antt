@@ -19,7 +19,7 @@ pub returns-in-Some : goal.returns-in-Some
 returns-in-Some g c =
     let is = sym (by_limits (λ (l : Limits). link_text_tests l c.args.text.now) c.limits.ensures c.refusal_of_link_text.ensures) ∙ c.in-Some.is in
     refuses no_look (link_text_own (limits_of c.args.inodes.now.geometry) c.args.text.now c.in-Some.errno is)
-    (λ disk settled v table stands volume mounted. link_text_refused (limits_of c.args.inodes.now.geometry) v table c.args.text.now c.args.path.now c.in-Some.errno is)
+    (λ disk settled v table stands volume mounted. link_text_refused (limits_of c.args.inodes.now.geometry) c.args.now v table c.args.text.now c.args.path.now c.in-Some.errno is)
 
 pub unreachable-requires : goal.unreachable-requires
 unreachable-requires g c =
@@ -34,4 +34,4 @@ returns g c = leaves c.make.ensures (λ disk settled v table stands volume mount
     let path = c.args.path.now in
     let passed : first_refusal (link_text_tests (limits_of c.args.inodes.now.geometry) text) ≡ None = sym (by_limits (λ (l : Limits). link_text_tests l c.args.text.now) c.limits.ensures c.refusal_of_link_text.ensures) ∙ c.in_default.is in
     let same : c.in-Some-new.text.bytes.items ≡ text = c.in-Some-new.ensures.some ∙ c.in_ok-bytes.ensures.items in
-    symlink_comes limits v table text path passed r (subst (λ (x : List ℕ). Comes (creates limits t path (with_made (symbolic_link x))) limits v table r) same told))
+    symlink_comes limits c.args.now v table text path passed r (subst (λ (x : List ℕ). Comes (creates limits c.args.now t path (with_made (symbolic_link x))) limits v table r) same told))

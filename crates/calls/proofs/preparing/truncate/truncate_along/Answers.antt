@@ -11,7 +11,7 @@ use Rattle.calls.proofs.preparing.truncate.truncate_along.Goals as goal
 pub returns-in_err-number : goal.returns-in_err-number
 returns-in_err-number g c = passes _ c.from_residual.result c.from_residual.ensures.1 c.in_err-number.ensures
     (λ disk settled v table stands volume mounted errno is.
-    truncate_nowhere (limits_of c.args.inodes.now.geometry) v table c.args.path.now c.args.size errno (inr (c.requires.passed, is)))
+    truncate_nowhere (limits_of c.args.inodes.now.geometry) c.args.now v table c.args.path.now c.args.size errno (inr (c.requires.passed, is)))
 
 pub returns-in_err-found : goal.returns-in_err-found
 returns-in_err-found g c =
@@ -29,14 +29,14 @@ returns-in-File g c = follows (looks_more c.in_ok-number.ensures.looks c.in_ok-f
     let n = c.in_ok-number.number in
     let size : c.unsigned_abs.result ≡ nat_abs c.args.size = c.unsigned_abs.ensures.value ∙ ap nat_abs (to_z-of_z w64 c.args.size c.ranges.size) in
     let is = found_file (v n) (sym (c.in_ok-found.ensures.found disk settled v (c.find_object.ensures.looks.kept disk settled v stands)) ∙ c.in-File.is) in
-    truncate_comes limits v table text c.args.size n (c.requires.passed, c.in_ok-number.ensures.leads disk settled v table stands volume)
+    truncate_comes limits c.args.now v table text c.args.size n (c.requires.passed, c.in_ok-number.ensures.leads disk settled v table stands volume)
     (c.in_ok-number.ensures.followed disk settled v stands volume refl) r
-    (subst (λ (m : ℕ). TruncatesNumber limits v table n m r) size (truncates_found limits v table n c.unsigned_abs.result r is truncates_file)))
+    (subst (λ (m : ℕ). TruncatesNumber limits c.args.now v table n m r) size (truncates_found limits c.args.now v table n c.unsigned_abs.result r is truncates_file)))
 
 pub returns-in_default : goal.returns-in_default
 returns-in_default g c = refuses (looks_more c.in_ok-number.ensures.looks c.in_ok-found.ensures.looks) refl (λ disk settled v table stands volume mounted.
     let text = c.args.path.now in
     let n = c.in_ok-number.number in
     let found = c.in_ok-found.ensures.found disk settled v (c.find_object.ensures.looks.kept disk settled v stands) in
-    truncate_comes (limits_of c.args.inodes.now.geometry) v table text c.args.size n (c.requires.passed, c.in_ok-number.ensures.leads disk settled v table stands volume)
+    truncate_comes (limits_of c.args.inodes.now.geometry) c.args.now v table text c.args.size n (c.requires.passed, c.in_ok-number.ensures.leads disk settled v table stands volume)
     (c.in_ok-number.ensures.followed disk settled v stands volume refl) (Err EISDIR) (found_other (v n) (λ e. c.in_default.not-File (found ∙ e)), refl))

@@ -19,7 +19,7 @@ pub returns-in-Some : goal.returns-in-Some
 returns-in-Some g c =
     let is : first_refusal (new_text_tests (limits_of c.args.inodes.now.geometry) c.args.path.now) ≡ Some c.in-Some.errno = sym c.refusal_of_new_path.ensures ∙ c.in-Some.is in
     refuses no_look (new_text_own (limits_of c.args.inodes.now.geometry) c.args.path.now c.in-Some.errno is)
-    (λ disk settled v table stands volume mounted. unlink_text_refused (limits_of c.args.inodes.now.geometry) v table c.args.path.now c.in-Some.errno is)
+    (λ disk settled v table stands volume mounted. unlink_text_refused (limits_of c.args.inodes.now.geometry) c.args.now v table c.args.path.now c.in-Some.errno is)
 
 pub resolve_place-requires-clause-named : goal.resolve_place-requires-clause-named
 resolve_place-requires-clause-named g c =
@@ -37,8 +37,8 @@ returns-in-Entry g c = follows c.in_ok-place.ensures.looks c.unlink_entry.ensure
     let (r, reaches, at) = subst (LeadsAt (tree_of v table) v false text) c.in-Entry.is (c.in_ok-place.ensures.found disk settled v table stands volume (level (limits_of c.args.inodes.now.geometry) text passed)) in
     let name = c.in-Entry.name.items in
     let n = c.in-Entry.number in
-    unlink_comes limits v table volume mounted (c.volumes_are_trees.ensures limits v table volume mounted) c.records_change_trees.ensures text passed r reaches _ name n
-    (finds_entry v c.in-Entry.trail name n r at) y (subst (λ (d : ℕ). UnlinksEntry limits v d name n y) c.here.ensures told))
+    unlink_comes limits c.args.now v table volume mounted (c.volumes_are_trees.ensures limits v table volume mounted) c.records_change_trees.ensures text passed r reaches _ name n
+    (finds_entry v c.in-Entry.trail name n r at) y (subst (λ (d : ℕ). UnlinksEntry limits c.args.now v d name n y) c.here.ensures told))
 
 pub returns-in-Directory : goal.returns-in-Directory
 returns-in-Directory g c = refuses c.in_ok-place.ensures.looks refl (λ disk settled v table stands volume mounted.
@@ -48,7 +48,7 @@ returns-in-Directory g c = refuses c.in_ok-place.ensures.looks refl (λ disk set
     let t = tree_of v table in
     let (r, reaches, at) = subst (LeadsAt t v false text) c.in-Directory.is (c.in_ok-place.ensures.found disk settled v table stands volume (level (limits_of c.args.inodes.now.geometry) text passed)) in
     let ends = subst (λ p. EndsWell v false (model_place_of p)) c.in-Directory.is (c.in_ok-place.ensures.ends disk settled v stands volume) in
-    unlink_directory limits v table volume mounted (c.volumes_are_trees.ensures limits v table volume mounted) c.records_change_trees.ensures text passed _
+    unlink_directory limits c.args.now v table volume mounted (c.volumes_are_trees.ensures limits v table volume mounted) c.records_change_trees.ensures text passed _
     (along_by t v false text r (Ok _) reaches (leads_directory limits v volume c.in-Directory._trail r at)) ends)
 
 pub returns-in-Refusal : goal.returns-in-Refusal
@@ -56,11 +56,11 @@ returns-in-Refusal g c =
     let passed : first_refusal (new_text_tests (limits_of c.args.inodes.now.geometry) c.args.path.now) ≡ None = search rules in
     finds_none c.in_ok-place.ensures (level (limits_of c.args.inodes.now.geometry) c.args.path.now passed) (ap led_of c.in-Refusal.is) (λ disk settled v table stands volume mounted.
     let limits = limits_of c.args.inodes.now.geometry in
-    unlink_refused limits v table volume mounted (c.volumes_are_trees.ensures limits v table volume mounted) c.records_change_trees.ensures c.args.path.now passed _)
+    unlink_refused limits c.args.now v table volume mounted (c.volumes_are_trees.ensures limits v table volume mounted) c.records_change_trees.ensures c.args.path.now passed _)
 
 pub returns-in-Missing : goal.returns-in-Missing
 returns-in-Missing g c =
     let passed : first_refusal (new_text_tests (limits_of c.args.inodes.now.geometry) c.args.path.now) ≡ None = search rules in
     finds_none c.in_ok-place.ensures (level (limits_of c.args.inodes.now.geometry) c.args.path.now passed) (ap led_of c.in-Missing.is) (λ disk settled v table stands volume mounted.
     let limits = limits_of c.args.inodes.now.geometry in
-    unlink_refused limits v table volume mounted (c.volumes_are_trees.ensures limits v table volume mounted) c.records_change_trees.ensures c.args.path.now passed _)
+    unlink_refused limits c.args.now v table volume mounted (c.volumes_are_trees.ensures limits v table volume mounted) c.records_change_trees.ensures c.args.path.now passed _)

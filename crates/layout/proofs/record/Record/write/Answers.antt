@@ -1,44 +1,9 @@
-use Rattle.std.proofs.Common.{arith}
-use Rattle.layout.specs.Record.{made_of}
-use Rattle.layout.proofs.RecordLengths.{length-create, length-link, length-remove_name, length-rename, length-write, length-truncate, length-change_mode, length-set_file}
+use Rattle.std.proofs.Common.{◌≡◌, ◌+◌, ◌∷◌, [], length, sym, ap, arith}
+use Rattle.layout.specs.Record.{change_of}
+use Rattle.layout.proofs.RecordLengths.{length-change}
+use Rattle.layout.proofs.WritingLaws.{writes_both, written_to}
 use Rattle.layout.proofs.record.Record.write.Goals as goal
 
-pub write_create-requires-clause-room : goal.write_create-requires-clause-room
-write_create-requires-clause-room c =
-    let room = rw c.in-Create.is at c.requires.room in
-    omega (arith, room, length-create c.in-Create.number c.in-Create.parent (made_of c.in-Create.object) c.in-Create.name.now)
-
-pub write_link-requires-clause-room : goal.write_link-requires-clause-room
-write_link-requires-clause-room c =
-    let room = rw c.in-Link.is at c.requires.room in
-    omega (arith, room, length-link c.in-Link.number c.in-Link.parent c.in-Link.name.now)
-
-pub write_remove_name-requires-clause-room : goal.write_remove_name-requires-clause-room
-write_remove_name-requires-clause-room c =
-    let room = rw c.in-RemoveName.is at c.requires.room in
-    omega (arith, room, length-remove_name c.in-RemoveName.parent c.in-RemoveName.name.now)
-
-pub write_rename-requires-clause-room : goal.write_rename-requires-clause-room
-write_rename-requires-clause-room c =
-    let room = rw c.in-Rename.is at c.requires.room in
-    omega (arith, room, length-rename c.in-Rename.parent c.in-Rename.name.now c.in-Rename.new_parent c.in-Rename.new_name.now)
-
-pub write_write-requires-clause-room : goal.write_write-requires-clause-room
-write_write-requires-clause-room c =
-    let room = rw c.in-Write.is at c.requires.room in
-    omega (arith, room, length-write c.in-Write.number c.in-Write.offset c.in-Write.bytes.now)
-
-pub write_truncate-requires : goal.write_truncate-requires
-write_truncate-requires c =
-    let room = rw c.in-Truncate.is at c.requires.room in
-    omega (arith, room, length-truncate c.in-Truncate.number c.in-Truncate.size)
-
-pub write_change_mode-requires : goal.write_change_mode-requires
-write_change_mode-requires c =
-    let room = rw c.in-ChangeMode.is at c.requires.room in
-    omega (arith, room, length-change_mode c.in-ChangeMode.number c.in-ChangeMode.mode)
-
-pub write_set_file-requires : goal.write_set_file-requires
-write_set_file-requires c =
-    let room = rw c.in-SetFile.is at c.requires.room in
-    omega (arith, room, length-set_file c.in-SetFile.number c.in-SetFile.mode c.in-SetFile.size)
+pub returns : goal.returns
+returns c =
+    writes_both (rw c.op.ensures at c.put_byte.ensures) (writes_both (written_to (omega (arith, c.time_len.ensures.value)) c.put_call_time.ensures) c.write_fields.ensures)

@@ -1,4 +1,4 @@
-use Rattle.mount.proofs.CommitLemmas.{applies_alone, applies_lost, applies_waiting}
+use Rattle.mount.proofs.CommandLemmas.{applies_alone, applies_lost, applies_waiting}
 use Rattle.mount.proofs.waiting.Waiting.apply.Goals as goal
 
 pub returns-in-Some : goal.returns-in-Some

@@ -1,6 +1,6 @@
 use Rattle.std.proofs.Common.{ap}
 use Rattle.system.specs.Waits.{Waits}
-use Rattle.mount.proofs.CommitLemmas.{is_alone}
+use Rattle.mount.proofs.CommandLemmas.{is_alone}
 use Rattle.mount.proofs.waiting.Waiting.apply_alone.Goals as goal
 
 pub invariant_of-self : goal.invariant_of-self

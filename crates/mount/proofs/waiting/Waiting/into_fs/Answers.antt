@@ -1,4 +1,4 @@
-use Rattle.mount.proofs.CommitLemmas.{shown_served}
+use Rattle.mount.proofs.CommandLemmas.{shown_served}
 use Rattle.mount.proofs.waiting.Waiting.into_fs.Goals as goal
 
 pub returns-clause-serves : goal.returns-clause-serves

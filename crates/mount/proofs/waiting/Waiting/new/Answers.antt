@@ -1,4 +1,4 @@
-use Rattle.mount.proofs.CommitLemmas.{runs_begin}
+use Rattle.mount.proofs.CommandLemmas.{runs_begin}
 use Rattle.mount.proofs.waiting.Waiting.new.Goals as goal
 
 pub returns-clause-begins : goal.returns-clause-begins

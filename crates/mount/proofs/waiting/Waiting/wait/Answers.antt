@@ -1,4 +1,4 @@
-use Rattle.mount.proofs.CommitLemmas.{waits_failed, waits_never}
+use Rattle.mount.proofs.CommandLemmas.{waits_failed, waits_never}
 use Rattle.mount.proofs.waiting.Waiting.wait.Goals as goal
 
 pub returns-then-self : goal.returns-then-self

@@ -1,0 +1,43 @@
+//! Changing the mode of a descriptor's file.
+
+ghost use Rattle.layout.specs.StateLimits.{limits_of};
+ghost use Rattle.model.specs.Attributes.{KeepsTime};
+ghost use Rattle.model.specs.Descriptors.{changes_open_mode};
+ghost use Rattle.paths.specs.Loads.{IsAny};
+ghost use Rattle.calls.specs.Changing.{ComesOrStays};
+ghost use Rattle.descriptors.specs.Tables.{table_of};
+ghost use Rattle.files.specs.Opened.{tree_with};
+ghost use Rattle.files.specs.Preparing.{PreparesOpen, of_changing};
+
+use buffers::Blocks;
+use calls::{Changing, set_mode};
+use descriptors::Descriptors;
+use inofile::InodeFile;
+use layout::InodeNumber;
+use model::{Errno, Mode, Time};
+use records::Failure;
+use std::alloc::Global;
+
+/// Gives a mode to the file of a descriptor, whatever that is open for, as far as nothing of it is
+/// seen yet: prepares its record; or refuses with EBADF where the descriptor isn't open. NoMemory;
+/// Device where a read failed; Damaged where a block on the way is outside its format.
+pub fn prepare_fchmod<B: Blocks>(
+    alloc: Global,
+    inodes: &mut InodeFile,
+    blocks: &mut B,
+    now: Option<Time>,
+    table: &Descriptors,
+    fd: u32,
+    mode: Mode,
+) -> Result<Option<Changing>, Failure>
+    requires now { KeepsTime (limits_of inodes.old.geometry).has_attributes now }
+    ensures { PreparesOpen of_changing IsAny now B.Blocks blocks.old blocks.new inodes.old
+        inodes.new table.now (λ v. ComesOrStays (changes_open_mode now (tree_with table.now v) fd
+        mode) (limits_of inodes.old.geometry) v (table_of table.now)) result }
+{
+    let Some(file) = table.get(fd) else {
+        return Err(Failure::Refused(Errno::EBADF));
+    };
+    let number = InodeNumber::new(file.number);
+    set_mode(alloc, inodes, blocks, now, number, Some(mode))
+}
