@@ -1,9 +1,10 @@
 //! The blocks of the inode file, as mount tests them.
 
 ghost use Rattle.std.specs.Prelude.{◌≡◌, ◌↔◌, ℕ, ◌+◌, ◌*◌, ◌<◌, ◌≤◌, ◌^◌, List, IsTrue, OnOk, IfOk, IfSome, IsErrOf, Some, slice_index};
+ghost use Rattle.layout.specs.Bytes.{zeros};
 ghost use Rattle.layout.specs.Inode.{IsInode, inode_bytes};
 ghost use Rattle.layout.specs.Version.{greatest_under};
-ghost use Rattle.layout.specs.declared.TheConstants.{BLOCK_BYTES};
+ghost use Rattle.layout.specs.declared.TheConstants.{BLOCK_BYTES, INODE_BYTES};
 ghost use Rattle.layout.specs.declared.inode.Inode.{Inode};
 ghost use Rattle.buffers.specs.Reads.{ReadsBlocks};
 ghost use Rattle.buffers.specs.Errors.{IsFault};
@@ -113,7 +114,26 @@ fn part(bytes: &[u8; BLOCK_BYTES], index: u32) -> &[u8]
 fn is_inode_at(bytes: &[u8], place: u32, version: u32, geometry: Geometry) -> bool
     ensures { IsTrue result ↔ IsInodeAt version geometry place bytes.now }
 {
+    // Most inodes of an image are used by nothing, and a mount looks at each.
+    if is_free(bytes) {
+        return kind_fits(Kind::Free, place, geometry.inodes());
+    }
     inode_at(bytes, place, version, geometry).is_some()
+}
+
+/// Whether these bytes are those of an inode that nothing uses.
+fn is_free(bytes: &[u8]) -> bool
+    ensures { IsTrue result ↔ (bytes.now ≡ zeros INODE_BYTES) }
+{
+    if bytes.len() != INODE_BYTES {
+        return false;
+    }
+    for byte in bytes {
+        if *byte != 0 {
+            return false;
+        }
+    }
+    true
 }
 
 /// The inode that these bytes are at a place of an inode file, if they are one.
