@@ -25,7 +25,7 @@ const CALLS: [&str; 17] = [
 ];
 
 /// The other commands, but `in`, which stands before a call.
-const OTHERS: [&str; 20] = [
+const OTHERS: [&str; 21] = [
     "open PATH FLAGS [MODE]",
     "openstat PATH FLAGS [MODE]",
     "close FD",
@@ -39,6 +39,7 @@ const OTHERS: [&str; 20] = [
     "fstat FD",
     "fsync FD",
     "extent PATH OFFSET",
+    "at SECONDS NANOSECONDS",
     "sync",
     "df",
     "statfs",

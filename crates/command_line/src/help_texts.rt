@@ -62,6 +62,7 @@ pub const COMMAND_NOTES: &str = "Commands, one a line, with an example of each:
   fstat FD                    what stat tells, of an open file: fstat 0
   fsync FD                    answered once all that was done is kept, as each command is: fsync 0
   extent PATH OFFSET          counts a file's stored blocks, finds data and a hole: extent /f 0
+  at SECONDS NANOSECONDS      from here on calls come at this time, if the image keeps times: at 5 7
   sync                        makes a consistency point: sync
   df                          tells the room of the disk: df
   statfs                      tells the room of the disk, and for how many files: statfs
@@ -74,6 +75,7 @@ pub const COMMAND_NOTES: &str = "Commands, one a line, with an example of each:
 FLAGS is r, w or rw, then some of: c makes a file where none is, x refuses one that is,
 t cuts it to no bytes, a has each write go behind the last byte. A new file has mode 0644 or this one.
 FROM is set, cur or end. DATA is two hexadecimal digits a byte, - for none.
+SECONDS and NANOSECONDS count from the Epoch, SECONDS also below 0; a mount forgets the time of at.
 Words stand one space apart; in a path a space is %20, a % is %25, and so each byte
 but 0x21 to 0x7e is % and two lower-case hexadecimal digits. A default mode isn't written.
 

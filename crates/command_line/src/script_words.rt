@@ -15,8 +15,8 @@ pub fn word_reason(
     word: &[u8],
 ) -> Result<Option<String>, AllocError> {
     match field {
-        "COUNT" | "FD" => number_reason(alloc, word, 0, i64::from(u32::MAX)),
-        "OFFSET" | "SIZE" | "COOKIE" => number_reason(alloc, word, i64::MIN, i64::MAX),
+        "COUNT" | "FD" | "NANOSECONDS" => number_reason(alloc, word, 0, i64::from(u32::MAX)),
+        "OFFSET" | "SIZE" | "COOKIE" | "SECONDS" => number_reason(alloc, word, i64::MIN, i64::MAX),
         "MODE" => mode_reason(alloc, word, b""),
         "[MODE]" => mode_reason(alloc, word, default_mode(form)),
         "DATA" => data_reason(alloc, word),

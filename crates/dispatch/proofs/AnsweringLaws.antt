@@ -53,7 +53,7 @@ done_handles old new call log reply reads kind own = record {
 }
 
 module _ {S : Type 0} {G : Ghosts S} (old new : System S G) (call : Command)
-    (parts : system_parts new ≡ record (system_parts old) { kept = new.blocks.buffers.kept; pending = new.blocks.pending; inodes = new.inodes; view = new.view; files = new.files })
+    (parts : system_parts new ≡ record (system_parts old) { kept = new.blocks.buffers.kept; pending = new.blocks.pending; inodes = new.inodes; view = new.view; files = new.files; session = new.session })
     (view : KeepsViews old new.view) (reply : Reply) (reads : ReadsBlocks (blocks_with G) IsFault old.blocks new.blocks (Ok reply)) (s : State) where
   -- at a state that is served
   pub done_serving : (served : ServesState old s) → EachCut (meaning_of old) (OpensTo (meaning_of old) s) → IsAnswered old new (served_shows served) call reply → HandlesAt old new s served call (Ok reply)

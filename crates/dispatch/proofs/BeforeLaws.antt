@@ -196,7 +196,7 @@ module _ {S : Type 0} {G : Ghosts S} {old mid : System S G} {call : Command} {p 
         let there : IsPreparedAt (system_parts mid) (blocks_of (disk_of new)) next.rest.serves.running call p =
         subst (λ (w : Volume). IsPreparedAt (system_parts mid) (blocks_of (disk_of new)) w call p) (sym next.volume)
         (subst (λ (d : ℕ → List ℕ). IsPreparedAt (system_parts mid) d serves.running call p) disk here) in
-        subst Now (sym ready.parts) (record { timed = there.timed; does = there.does; comes = there.comes });
+        subst Now (sym ready.parts) (record { said = there.said; timed = there.timed; does = there.does; comes = there.comes });
   }
 
   -- and it is prepared behind what came before

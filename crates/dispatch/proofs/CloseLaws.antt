@@ -3,6 +3,7 @@ use Rattle.std.proofs.Common.{◌≡◌, ◌⊎◌, inl, inr, ℕ, Option, Some,
 use Rattle.std.specs.Prelude.{IsFalse, IsTrue, ◌↔◌}
 use Rattle.std.specs.Option.{option_map}
 use Rattle.std.proofs.lemmas.Bool.{cases_Bool, false≢true}
+use Rattle.model.specs.declared.session.Session.{Session}
 use Rattle.model.specs.declared.limits.Limits.{Limits}
 use Rattle.layout.specs.StateLimits.{limits_of}
 use Rattle.station.specs.declared.station.Station.{Ghosts}
@@ -74,9 +75,9 @@ module _ {S : Type 0} {G : Ghosts S} (law : NamedHavePaths) (f : System S G) (s 
   ]
 
 -- what the system shows once it is freed, behind a look
-pub close_leads : {S : Type 0} {G : Ghosts S} (records : RecordLaws) (f new : System S G) {s : State} (shown : ShowsState f s) (fd : ℕ) (reply : Reply) {after : Overlay S G} {inodes : InodeFile} {T : Type 0} {r : Result T BlockError}
+pub close_leads : {S : Type 0} {G : Ghosts S} (records : RecordLaws) (f new : System S G) {s : State} (shown : ShowsState f s) (fd : ℕ) (reply : Reply) (said : new.session ≡ f.session) {after : Overlay S G} {inodes : InodeFile} {T : Type 0} {r : Result T BlockError}
     → (looks : Looks (blocks_with G) IsFault f.blocks after f.inodes inodes r) → {U : Type 0} {closed : Result U Errno} → Closes inodes new.inodes f.files new.files fd closed → done_reply closed ≡ reply → IsAnswered f new shown (command.Close fd) reply
-close_leads {S} {G} records f new {s} shown fd reply {after} {inodes} looks {U} {closed} closes_so is =
+close_leads {S} {G} records f new {s} shown fd reply said {after} {inodes} looks {U} {closed} closes_so is =
     let limits = limits_of f.root.geometry in
     let v = shown.running in
     let table = table_of new.files in
@@ -87,7 +88,7 @@ close_leads {S} {G} records f new {s} shown fd reply {after} {inodes} looks {U} 
     let told : closes (tree_with f.files v) fd reply left nothing = subst (λ (answer : Reply). closes (tree_with f.files v) fd answer left nothing) is (closes_so.answers limits v shown.memory.volume mounted) in
     let count = f.root.geometry.blocks in
     record {
-      next = state_with limits (swept table v) table shown.snapshots;
+      next = state_with limits f.session (swept table v) table shown.snapshots;
       step = λ room stored. (subst (λ (t : Tree). closes t fd reply left nothing) (sym tree) told, ap (λ (u : State). record u { tree = left }) (sym shown.state));
       shows = record {
         running = swept table v;
@@ -100,6 +101,6 @@ close_leads {S} {G} records f new {s} shown fd reply {after} {inodes} looks {U} 
         mounted = closes_so.mounted v mounted;
         opened = refl;
         fits = closes_so.fits v shown.fits;
-        state = refl;
+        state = ap (λ (x : Session). state_with limits x (swept table v) table shown.snapshots) (sym said);
       };
     }

@@ -11,7 +11,8 @@ use Rattle.model.specs.Outcomes.{Outcome}
 use Rattle.model.specs.Records.{applied, work_of}
 use Rattle.model.specs.Replies.{IsReplyTo}
 use Rattle.model.specs.Room.{Need, logs, nothing}
-use Rattle.model.specs.States.{time_under}
+use Rattle.model.specs.declared.session.Session.{Session}
+use Rattle.model.specs.Sessions.{kept_time}
 use Rattle.model.specs.Steps.{calls, is_reading_call}
 use Rattle.model.specs.Trees.{Description}
 use Rattle.model.specs.Volumes.{IsMounted, Volume, swept, tree_of}
@@ -56,25 +57,25 @@ use Rattle.dispatch.specs.declared.table_move.TableMove.TheVariants.{Opens, Stay
 use Rattle.dispatch.proofs.ServingLaws.{done_is_reply}
 
 -- a record that applies and needs no sweep
-pub goes_beside : (limits : Limits) (v : Volume) (table : ℕ → Option Description) (call : Command) (reply : Reply) (move : TableMove) (c : PreparedChange)
+pub goes_beside : (limits : Limits) (said : Session) (v : Volume) (table : ℕ → Option Description) (call : Command) (reply : Reply) (move : TableMove) (c : PreparedChange)
     → GoesOver limits v table (logged_by c) → ((w : Volume) → FitsMove w move)
-    → WouldLead limits v table call reply (applied (logged_by c) v) (moved_table move table) (logs (work_of v (logged_by c))) → DoesBeside limits v table call reply move (Some c)
-goes_beside limits v table call reply move c goes fits told =
+    → WouldLead limits said v table call reply (applied (logged_by c) v) (moved_table move table) (logs (work_of v (logged_by c))) → DoesBeside limits said v table call reply move (Some c)
+goes_beside limits said v table call reply move c goes fits told =
     let w = applied (logged_by c) v in
     let same : w ≡ swept table w = sym (fun_ext {f = swept table w} {g = w} goes.1.is_swept) in (
       goes.0,
       subst (λ (x : Volume). IsMounted x table) same goes.1,
       fits (swept table w),
-      subst (λ (x : Volume). WouldLead limits v table call reply x (moved_table move table) (logs (work_of v (logged_by c)))) same told,
+      subst (λ (x : Volume). WouldLead limits said v table call reply x (moved_table move table) (logs (work_of v (logged_by c)))) same told,
     )
 
-module _ {B T : Type 0} {changes : Changes T} {W : T → Type 0} {G : Ghosts B} {a b : B} {s t : InodeFile} {files : Descriptors} {answer : Volume → Result T Errno → Type 0} (call : Command) where
+module _ {B T : Type 0} {changes : Changes T} {W : T → Type 0} {G : Ghosts B} {a b : B} {s t : InodeFile} (said : Session) {files : Descriptors} {answer : Volume → Result T Errno → Type 0} (call : Command) where
   -- it isn't refused
-  pub does : {now : Option Time} {x : T} {d : PreparedCall} → now ≡ time_under (limits_of s.geometry) → PreparesOpen changes W now G a b s t files answer (Ok x) → (W x → MayDo s.geometry.inodes files call d)
-      → ((P : Prepared → Change → Type 0) → changes x P → of_prepared d P) → ((v : Volume) → answer v (Ok x) → DoesCall (limits_of s.geometry) v (table_of files) call (Ok d))
-      → PreparesCall G a b s t files call (Ok d)
+  pub does : {now : Option Time} {x : T} {d : PreparedCall} → now ≡ kept_time (limits_of s.geometry) said.time → PreparesOpen changes W now G a b s t files answer (Ok x) → (W x → MayDo s.geometry.inodes files call d)
+      → ((P : Prepared → Change → Type 0) → changes x P → of_prepared d P) → ((v : Volume) → answer v (Ok x) → DoesCall (limits_of s.geometry) said v (table_of files) call (Ok d))
+      → PreparesCall G a b s t said files call (Ok d)
   does {x = x} is told may changed leads =
-      grants told.looks (may told.within) (changed (λ p change. IsReady t p) told.ready) (changed (λ p change. change.time ≡ time_under (limits_of s.geometry)) (subst (λ (n : Option Time). changes x (λ p change. change.time ≡ n)) is told.timed)) (λ disk settled v stands. changed (λ p change. Does disk settled t v p change) (told.does disk settled v stands))
+      grants told.looks (may told.within) (changed (λ p change. IsReady t p) told.ready) (changed (λ p change. change.time ≡ kept_time (limits_of s.geometry) said.time) (subst (λ (n : Option Time). changes x (λ p change. change.time ≡ n)) is told.timed)) (λ disk settled v stands. changed (λ p change. Does disk settled t v p change) (told.does disk settled v stands))
       (λ disk settled v stands volume mounted fits. leads v (told.answers disk settled v stands volume mounted fits))
 
 -- what a write at an offset comes to
@@ -93,36 +94,36 @@ said_within None = tt
 said_within (Some c) = tt
 
 -- a call that is answered by this reply where its record, if it has one, does what it does
-pub comes_so : (limits : Limits) (v : Volume) (table : ℕ → Option Description) (call : Command) (outcome : Outcome) (o : Option Changing)
-    → ((reply : Reply) (w : Volume) (need : Need) → outcome reply (tree_of w table) need → WouldLead limits v table call reply w table need)
-    → ComesOrStays outcome limits v table (Ok o) → DoesBeside limits v table call Done Stays (said_change o)
-comes_so limits v table call outcome None leads told = (tt, leads Done v nothing told)
-comes_so limits v table call outcome (Some c) leads told =
+pub comes_so : (limits : Limits) (said : Session) (v : Volume) (table : ℕ → Option Description) (call : Command) (outcome : Outcome) (o : Option Changing)
+    → ((reply : Reply) (w : Volume) (need : Need) → outcome reply (tree_of w table) need → WouldLead limits said v table call reply w table need)
+    → ComesOrStays outcome limits v table (Ok o) → DoesBeside limits said v table call Done Stays (said_change o)
+comes_so limits said v table call outcome None leads told = (tt, leads Done v nothing told)
+comes_so limits said v table call outcome (Some c) leads told =
     (told.0, told.1, tt, leads Done (swept table (applied (change_by c) v)) (logs (work_of v (change_by c))) told.2)
 
 -- ---- a file that is opened
 
 module _ (path : List ℕ) (flags : Flags) (mode below : ℕ) where
   -- what `open` and `openstat` come to is what they lead to
-  pub opens_leads : (limits : Limits) (v : Volume) (table : ℕ → Option Description) (tells : Bool) (reply : Reply) (w : Volume) (after : ℕ → Option Description) (need : Need)
-      → opens tells below limits (time_under limits) (tree_of v table) path flags mode reply (tree_of w after) need → WouldLead limits v table (opening_call tells path flags mode below) reply w after need
-  opens_leads limits v table false reply w after need told snapshots room = (told, refl)
-  opens_leads limits v table true reply w after need told snapshots room = (told, refl)
+  pub opens_leads : (limits : Limits) (said : Session) (v : Volume) (table : ℕ → Option Description) (tells : Bool) (reply : Reply) (w : Volume) (after : ℕ → Option Description) (need : Need)
+      → opens tells below limits (kept_time limits said.time) (tree_of v table) path flags mode reply (tree_of w after) need → WouldLead limits said v table (opening_call tells path flags mode below) reply w after need
+  opens_leads limits said v table false reply w after need told snapshots room = (told, refl)
+  opens_leads limits said v table true reply w after need told snapshots room = (told, refl)
 
   pub opening_kind : (tells : Bool) (o : Opening) → IsReplyTo (opening_call tells path flags mode below) (opening_reply tells o)
   opening_kind false o = tt
   opening_kind true o = tt
 
-  pub opens_so : (limits : Limits) (v : Volume) (files : Descriptors) (tells : Bool) (o : Opening) (c : Option Changing)
-      → OpensDescriptorOver (λ t. opens t below limits (time_under limits) (tree_with files v) path flags mode) limits v files o c
-      → DoesBeside limits v (table_of files) (opening_call tells path flags mode below) (opening_reply tells o) (Opens o.fd o.file) (said_change c)
-  opens_so limits v files tells o None told = (told.0, opens_leads limits v (table_of files) tells (opening_reply tells o) v (with_opened o files) nothing (told.1 tells))
-  opens_so limits v files tells o (Some c) told =
+  pub opens_so : (limits : Limits) (said : Session) (v : Volume) (files : Descriptors) (tells : Bool) (o : Opening) (c : Option Changing)
+      → OpensDescriptorOver (λ t. opens t below limits (kept_time limits said.time) (tree_with files v) path flags mode) limits v files o c
+      → DoesBeside limits said v (table_of files) (opening_call tells path flags mode below) (opening_reply tells o) (Opens o.fd o.file) (said_change c)
+  opens_so limits said v files tells o None told = (told.0, opens_leads limits said v (table_of files) tells (opening_reply tells o) v (with_opened o files) nothing (told.1 tells))
+  opens_so limits said v files tells o (Some c) told =
       let w = swept (table_of files) (applied (change_by c) v) in (
         told.0,
         told.1,
         told.2,
-        opens_leads limits v (table_of files) tells (opening_reply tells o) w (with_opened o files) (logs (work_of v (change_by c))) (told.3 tells),
+        opens_leads limits said v (table_of files) tells (opening_reply tells o) w (with_opened o files) (logs (work_of v (change_by c))) (told.3 tells),
       )
 
 pub opening_accepted : (tells : Bool) (o : Opening) → IsAccepted (opening_reply tells o)
@@ -131,30 +132,30 @@ opening_accepted true o errno is = cc
 
 -- ---- a call by a path
 
-pub path_leads : (call : PathCall) (limits : Limits) (v : Volume) (table : ℕ → Option Description) (reply : Reply) (w : Volume) (need : Need) → calls limits (time_under limits) (tree_of v table) call reply (tree_of w table) need
-    → WouldLead limits v table (command.Path call) reply w table need
-path_leads call limits v table reply w need told snapshots room = (told, refl)
+pub path_leads : (call : PathCall) (limits : Limits) (said : Session) (v : Volume) (table : ℕ → Option Description) (reply : Reply) (w : Volume) (need : Need) → calls limits (kept_time limits said.time) (tree_of v table) call reply (tree_of w table) need
+    → WouldLead limits said v table (command.Path call) reply w table need
+path_leads call limits said v table reply w need told snapshots room = (told, refl)
 
-module _ {B : Type 0} {G : Ghosts B} {a b : B} {s t : InodeFile} (call : PathCall) where
+module _ {B : Type 0} {G : Ghosts B} {a b : B} {s t : InodeFile} (said : Session) (call : PathCall) where
   -- it isn't refused
-  pub path_done : {now : Option Time} → now ≡ time_under (limits_of s.geometry) → IsFalse (is_reading_call call) → IsFalse (is_writing_call call) → (o : Option Changing) → PreparesAny now G a b s t (CallComes now call) (Ok o) → (files : Descriptors)
-      → PreparesCall G a b s t files (command.Path call) (Ok (record { reply = Done; change = said_change o; table = Stays }))
+  pub path_done : {now : Option Time} → now ≡ kept_time (limits_of s.geometry) said.time → IsFalse (is_reading_call call) → IsFalse (is_writing_call call) → (o : Option Changing) → PreparesAny now G a b s t (CallComes now call) (Ok o) → (files : Descriptors)
+      → PreparesCall G a b s t said files (command.Path call) (Ok (record { reply = Done; change = said_change o; table = Stays }))
   path_done is changes writes o told files =
       grants told.looks (record { kind = done_is_reply call changes writes; accepted = λ errno is. cc; moves = tt; numbered = tt; limits = said_within o }) (said_so o (λ p change. IsReady t p) told.ready)
-      (said_so o (λ p change. change.time ≡ time_under (limits_of s.geometry)) (subst (λ (n : Option Time). IfSome o (λ c. c.time ≡ n)) is told.timed))
+      (said_so o (λ p change. change.time ≡ kept_time (limits_of s.geometry) said.time) (subst (λ (n : Option Time). IfSome o (λ c. c.time ≡ n)) is told.timed))
       (λ disk settled v stands. said_so o (λ p change. Does disk settled t v p change) (told.does disk settled v stands))
       (λ disk settled v stands volume mounted fits.
-      comes_so (limits_of s.geometry) v (table_of files) (command.Path call) (calls (limits_of s.geometry) (time_under (limits_of s.geometry)) (tree_of v (table_of files)) call) o (path_leads call (limits_of s.geometry) v (table_of files))
+      comes_so (limits_of s.geometry) said v (table_of files) (command.Path call) (calls (limits_of s.geometry) (kept_time (limits_of s.geometry) said.time) (tree_of v (table_of files)) call) o (path_leads call (limits_of s.geometry) said v (table_of files))
       (subst (λ (n : Option Time). ComesOrStays (calls (limits_of s.geometry) n (tree_of v (table_of files)) call) (limits_of s.geometry) v (table_of files) (Ok o)) is (told.answers disk settled v (table_of files) stands volume mounted)))
 
   -- it is
-  pub path_refused : {now : Option Time} → now ≡ time_under (limits_of s.geometry) → (f : Failure) (q : Result PreparedCall Failure) → IsErrAnd q (λ g. g ≡ f) → PreparesAny now G a b s t (CallComes now call) (Err f) → (files : Descriptors)
-      → PreparesCall G a b s t files (command.Path call) q
-  path_refused same (failures.Refused errno) q is told files = carried (PreparesCall G a b s t files (command.Path call)) q is
+  pub path_refused : {now : Option Time} → now ≡ kept_time (limits_of s.geometry) said.time → (f : Failure) (q : Result PreparedCall Failure) → IsErrAnd q (λ g. g ≡ f) → PreparesAny now G a b s t (CallComes now call) (Err f) → (files : Descriptors)
+      → PreparesCall G a b s t said files (command.Path call) q
+  path_refused same (failures.Refused errno) q is told files = carried (PreparesCall G a b s t said files (command.Path call)) q is
       (refuses told.looks told.own (λ disk settled v stands volume mounted fits.
-      path_leads call (limits_of s.geometry) v (table_of files) (Refused errno) v nothing
+      path_leads call (limits_of s.geometry) said v (table_of files) (Refused errno) v nothing
       (subst (λ (n : Option Time). calls (limits_of s.geometry) n (tree_of v (table_of files)) call (Refused errno) (tree_of v (table_of files)) nothing) same (told.answers disk settled v (table_of files) stands volume mounted))))
-  path_refused same (failures.Read e) q is told files = carried (PreparesCall G a b s t files (command.Path call)) q is
+  path_refused same (failures.Read e) q is told files = carried (PreparesCall G a b s t said files (command.Path call)) q is
       (stops told.looks told.damaged (λ disk settled v stands volume mounted fits. tt))
 
 -- ---- bytes that go to a file over a path

@@ -2,6 +2,7 @@ mod LookedLaws
 mod MovedLaws
 mod ShowingLaws
 mod ServingLaws
+mod SayingLaws
 mod AnsweringLaws
 pub mod StoredLaws
 mod AskingLaws

@@ -1,6 +1,7 @@
 -- A system whose open files change, while its log and its disk stay as they are.
 use Rattle.std.proofs.Common.{◌≡◌, ◌⊎◌, inl, inr, ℕ, zero, suc, ◌≤◌, List, Option, Some, None, Bool, true, false, refl, sym, subst, ◌∙◌, arith}
 use Rattle.std.specs.Prelude.{IsSome, IsTrue}
+use Rattle.model.specs.declared.session.Session.{Session}
 use Rattle.model.specs.declared.limits.Limits.{Limits}
 use Rattle.layout.specs.StateLimits.{limits_of}
 use Rattle.station.specs.Images.{Images}
@@ -25,9 +26,9 @@ use Rattle.system.specs.Serving.{LeavesEither}
 use Rattle.system.specs.Systems.{Parts, IsServing, disk_over, state_with}
 
 -- what opens to a state opens to it with other open files
-pub opens_moved : (m : Meaning) (limits : Limits) (v : Volume) (table after : ℕ → Option Description) (snapshots : List (Name × Tree)) (c : Images)
-    → OpensTo m (state_with limits v table snapshots) c → OpensTo m (state_with limits v after snapshots) c
-opens_moved m limits v table after snapshots c to =
+pub opens_moved : (m : Meaning) (limits : Limits) (said : Session) (v : Volume) (table after : ℕ → Option Description) (snapshots : List (Name × Tree)) (c : Images)
+    → OpensTo m (state_with limits said v table snapshots) c → OpensTo m (state_with limits said v after snapshots) c
+opens_moved m limits said v table after snapshots c to =
     let o = to.opens in
     record {
       opens = record {
@@ -54,12 +55,12 @@ opens_moved m limits v table after snapshots c to =
       };
     }
 
-pub leaves_moved : (old new : Meaning) (s : State) (limits : Limits) (v : Volume) (table after : ℕ → Option Description) (snapshots : List (Name × Tree))
-    → LeavesEither old new s (state_with limits v table snapshots) → LeavesEither old new s (state_with limits v after snapshots)
-leaves_moved old new s limits v table after snapshots leaves =
-    weaker old new (λ c. OpensTo old s c ⊎ OpensTo old (state_with limits v table snapshots) c) (λ c. OpensTo old s c ⊎ OpensTo old (state_with limits v after snapshots) c) leaves (λ c either. elim either [
+pub leaves_moved : (old new : Meaning) (s : State) (limits : Limits) (said : Session) (v : Volume) (table after : ℕ → Option Description) (snapshots : List (Name × Tree))
+    → LeavesEither old new s (state_with limits said v table snapshots) → LeavesEither old new s (state_with limits said v after snapshots)
+leaves_moved old new s limits said v table after snapshots leaves =
+    weaker old new (λ c. OpensTo old s c ⊎ OpensTo old (state_with limits said v table snapshots) c) (λ c. OpensTo old s c ⊎ OpensTo old (state_with limits said v after snapshots) c) leaves (λ c either. elim either [
       | inl before ↦ inl before
-      | inr behind ↦ inr (opens_moved old limits v table after snapshots c behind)
+      | inr behind ↦ inr (opens_moved old limits said v table after snapshots c behind)
     ])
 
 -- ---- what a replay keeps that is dropped
@@ -107,12 +108,12 @@ led_on replays was = record {
 
 module _ {m : Meaning} {k : Parts} {table : ℕ → Option Description} {s : State} (serves : IsServing m k table s) where
   -- A system serves another state, by a volume that its records lead to too, of which a point stores no more.
-  abbrev pub led : (now_inodes : InodeFile) (now_files : Descriptors) (running : Volume) (after : ℕ → Option Description) (next : State)
+  abbrev pub led : (now_inodes : InodeFile) (now_files : Descriptors) (now_session : Session) (running : Volume) (after : ℕ → Option Description) (next : State)
       → ((last : Volume) → Extends serves.running last → Extends running last) → IsInMemory (blocks_of (disk_over k m.seen.disk)) k.root now_inodes running
       → memory_room serves.first now_inodes running ≤ memory_room serves.first k.inodes serves.running
-      → IsMounted running after → after ≡ table_of now_files → FitsVolume now_files running → next ≡ state_with (limits_of k.root.geometry) running after serves.snapshots
-      → IsServing m (record k { inodes = now_inodes; files = now_files }) after next
-  led now_inodes now_files running after next replays memory stores mounted opened fits state =
+      → IsMounted running after → after ≡ table_of now_files → FitsVolume now_files running → next ≡ state_with (limits_of k.root.geometry) now_session running after serves.snapshots
+      → IsServing m (record k { inodes = now_inodes; files = now_files; session = now_session }) after next
+  led now_inodes now_files now_session running after next replays memory stores mounted opened fits state =
       let lasts = serves.lasts in
       record {
         honest = serves.honest;

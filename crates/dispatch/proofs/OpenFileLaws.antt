@@ -11,7 +11,9 @@ use Rattle.model.specs.Circumstances.{IsSure}
 use Rattle.model.specs.Paths.{Name}
 use Rattle.model.specs.Records.{Applies, applied, work_of}
 use Rattle.model.specs.Room.{nothing, logs}
-use Rattle.model.specs.States.{State, time_under}
+use Rattle.model.specs.declared.session.Session.{Session}
+use Rattle.model.specs.Sessions.{kept_time}
+use Rattle.model.specs.States.{State}
 use Rattle.model.specs.Trees.{Description, Tree}
 use Rattle.model.specs.Volumes.{Volume, IsMounted, swept}
 use Rattle.model.specs.declared.command.Command.{Command}
@@ -70,28 +72,28 @@ changing_not_sure f _ is = cc
 
 module _ {m : Meaning} {k : Parts} {table : ℕ → Option Description} {s : State} (shown : IsShowing m k table s) where
   -- what is told of a system's volume and its open files is told of the state that it shows
-  pub led_to : (call : Command) (reply : Reply) (after : ℕ → Option Description) → WouldLead (limits_of k.root.geometry) shown.running (table_of k.files) call reply shown.running after nothing
-      → WouldCall s call reply (state_with (limits_of k.root.geometry) shown.running after shown.snapshots) nothing
+  pub led_to : (call : Command) (reply : Reply) (after : ℕ → Option Description) → WouldLead (limits_of k.root.geometry) k.session shown.running (table_of k.files) call reply shown.running after nothing
+      → WouldCall s call reply (state_with (limits_of k.root.geometry) k.session shown.running after shown.snapshots) nothing
   led_to call reply after told =
       let limits = limits_of k.root.geometry in
-      let is = shown.state ∙ ap (λ (t : ℕ → Option Description). state_with limits shown.running t shown.snapshots) shown.opened in
-      subst (λ (u : State). WouldCall u call reply (state_with limits shown.running after shown.snapshots) nothing) (sym is) (told shown.snapshots)
+      let is = shown.state ∙ ap (λ (t : ℕ → Option Description). state_with limits k.session shown.running t shown.snapshots) shown.opened in
+      subst (λ (u : State). WouldCall u call reply (state_with limits k.session shown.running after shown.snapshots) nothing) (sym is) (told shown.snapshots)
 
   -- a refusal
-  pub refused_to : (call : Command) (errno : Errno) → DoesCall (limits_of k.root.geometry) shown.running (table_of k.files) call (Err errno) → WouldCall s call (Refused errno) s nothing
+  pub refused_to : (call : Command) (errno : Errno) → DoesCall (limits_of k.root.geometry) k.session shown.running (table_of k.files) call (Err errno) → WouldCall s call (Refused errno) s nothing
   refused_to call errno told =
       let limits = limits_of k.root.geometry in
-      let same : state_with limits shown.running (table_of k.files) shown.snapshots ≡ s = sym (shown.state ∙ ap (λ (t : ℕ → Option Description). state_with limits shown.running t shown.snapshots) shown.opened) in
+      let same : state_with limits k.session shown.running (table_of k.files) shown.snapshots ≡ s = sym (shown.state ∙ ap (λ (t : ℕ → Option Description). state_with limits k.session shown.running t shown.snapshots) shown.opened) in
       subst (λ (u : State). WouldCall s call (Refused errno) u nothing) same (led_to call (Refused errno) (table_of k.files) told)
 
 -- a call that leaves the image as it is, and perhaps another table of open files
-pub table_leads : {S : Type 0} {G : Ghosts S} (f new : System S G) {s : State} (shown : ShowsState f s) (call : Command) (reply : Reply) → StandsStill f new.inodes shown
+pub table_leads : {S : Type 0} {G : Ghosts S} (f new : System S G) {s : State} (shown : ShowsState f s) (call : Command) (reply : Reply) → new.session ≡ f.session → StandsStill f new.inodes shown
     → (after : ℕ → Option Description) → after ≡ table_of new.files → FitsVolume new.files shown.running → IsMounted shown.running after
-    → WouldLead (limits_of f.root.geometry) shown.running (table_of f.files) call reply shown.running after nothing → IsAnswered f new shown call reply
-table_leads f new shown call reply stands after opened fits mounted told = record {
-  next = state_with (limits_of f.root.geometry) shown.running after shown.snapshots;
+    → WouldLead (limits_of f.root.geometry) f.session shown.running (table_of f.files) call reply shown.running after nothing → IsAnswered f new shown call reply
+table_leads f new shown call reply said stands after opened fits mounted told = record {
+  next = state_with (limits_of f.root.geometry) f.session shown.running after shown.snapshots;
   step = λ room stored. led_to shown call reply after told room;
-  shows = moved_shown f new shown stands after opened fits mounted;
+  shows = moved_shown f new shown stands said after opened fits mounted;
 }
 
 -- ---- calls that are prepared
@@ -101,7 +103,7 @@ pub record IsLogged {m : Meaning} {k : Parts} {table : ℕ → Option Descriptio
   pub applies : Applies (limits_of k.root.geometry) shown.running change
   pub mounted : IsMounted (swept table (applied change shown.running)) table
   pub fits : FitsMove (swept table (applied change shown.running)) move
-  pub step : WouldCall s call reply (state_with (limits_of k.root.geometry) (swept table (applied change shown.running)) (moved_table move table) shown.snapshots) (logs (work_of shown.running change))
+  pub step : WouldCall s call reply (state_with (limits_of k.root.geometry) k.session (swept table (applied change shown.running)) (moved_table move table) shown.snapshots) (logs (work_of shown.running change))
 
 module _ {m : Meaning} {k : Parts} {table : ℕ → Option Description} {s : State} (shown : IsShowing m k table s) {disk : ℕ → List ℕ} (call : Command) (p : PreparedCall) (c : PreparedChange) (change : Change)
     (some : p.change ≡ Some c) (says : change ≡ logged_by c) (prepared : IsPreparedAt k disk shown.running call p) where
@@ -109,14 +111,14 @@ module _ {m : Meaning} {k : Parts} {table : ℕ → Option Description} {s : Sta
   told_logged =
       let v = shown.running in
       let limits = limits_of k.root.geometry in
-      let with_files : DoesBeside limits v (table_of k.files) call p.reply p.table (Some c) = subst (λ (o : Option PreparedChange). DoesBeside limits v (table_of k.files) call p.reply p.table o) some prepared.comes in
-      let of_record = subst (λ (t : ℕ → Option Description). DoesRecord limits v t call p.reply p.table (logged_by c)) (sym shown.opened) with_files in
-      let here = subst (DoesRecord limits v table call p.reply p.table) (sym says) of_record in
+      let with_files : DoesBeside limits k.session v (table_of k.files) call p.reply p.table (Some c) = subst (λ (o : Option PreparedChange). DoesBeside limits k.session v (table_of k.files) call p.reply p.table o) some prepared.comes in
+      let of_record = subst (λ (t : ℕ → Option Description). DoesRecord limits k.session v t call p.reply p.table (logged_by c)) (sym shown.opened) with_files in
+      let here = subst (DoesRecord limits k.session v table call p.reply p.table) (sym says) of_record in
       record {
         applies = here.0;
         mounted = here.1;
         fits = here.2;
-        step = subst (λ (u : State). WouldCall u call p.reply (state_with limits (swept table (applied change v)) (moved_table p.table table) shown.snapshots) (logs (work_of v change))) (sym shown.state) (here.3 shown.snapshots);
+        step = subst (λ (u : State). WouldCall u call p.reply (state_with limits k.session (swept table (applied change v)) (moved_table p.table table) shown.snapshots) (logs (work_of v change))) (sym shown.state) (here.3 shown.snapshots);
       }
 
   -- put in force, its change does what the record says
@@ -129,16 +131,16 @@ module _ {m : Meaning} {k : Parts} {table : ℕ → Option Description} {s : Sta
   -- and it applies
   pub may_advance : ((has_attributes : Bool) → FitsTime has_attributes c.time → IsChange has_attributes change) → Advances (limits_of k.root.geometry) shown.running table change
   may_advance is =
-      let timed = subst (λ (o : Option PreparedChange). IfSome o (λ c. c.time ≡ time_under (limits_of k.root.geometry))) some prepared.timed in record { is = is (limits_of k.root.geometry).has_attributes (subst (FitsTime (limits_of k.root.geometry).has_attributes) (sym timed) (now_fits k.root.geometry)); applies = told_logged.applies; mounted = told_logged.mounted }
+      let timed = subst (λ (o : Option PreparedChange). IfSome o (λ c. c.time ≡ kept_time (limits_of k.root.geometry) k.session.time)) some prepared.timed in record { is = is (limits_of k.root.geometry).has_attributes (subst (FitsTime (limits_of k.root.geometry).has_attributes) (sym timed) (now_fits k.root.geometry k.session.time prepared.said.time)); applies = told_logged.applies; mounted = told_logged.mounted }
 
 -- behind a record, with another table of open files
-pub moved_on : {m : Meaning} {k : Parts} {table : ℕ → Option Description} (limits : Limits) {v : Volume} (snapshots : List (Name × Tree)) {changes : List Change}
-    (behind : IsServingWith m k table (state_with limits v table snapshots) v changes) (now_files : Descriptors) (after : ℕ → Option Description)
-    → after ≡ table_of now_files → FitsVolume now_files v → IsMounted v after → IsServingWith m (record k { files = now_files }) after (state_with limits v after snapshots) v changes
-moved_on {k = k} limits {v} snapshots behind now_files after opened fits mounted =
+pub moved_on : {m : Meaning} {k : Parts} {table : ℕ → Option Description} (limits : Limits) (said : Session) {v : Volume} (snapshots : List (Name × Tree)) {changes : List Change}
+    (behind : IsServingWith m k table (state_with limits said v table snapshots) v changes) (now_files : Descriptors) (after : ℕ → Option Description)
+    → after ≡ table_of now_files → FitsVolume now_files v → IsMounted v after → IsServingWith m (record k { files = now_files }) after (state_with limits said v after snapshots) v changes
+moved_on {k = k} limits said {v} snapshots behind now_files after opened fits mounted =
     let serves = behind.serves in
     record {
-      serves = led serves k.inodes now_files serves.running after (state_with limits v after snapshots) (λ last extends. extends) serves.memory (omega arith)
+      serves = led serves k.inodes now_files k.session serves.running after (state_with limits said v after snapshots) (λ last extends. extends) serves.memory (omega arith)
           (subst (λ (w : Volume). IsMounted w after) (sym behind.volume) mounted) opened (subst (λ (w : Volume). FitsVolume now_files w) (sym behind.volume) fits)
           (ap (λ (u : State). record u { tree = record u.tree { descriptors = after } }) serves.state);
       volume = behind.volume;
@@ -148,6 +150,6 @@ moved_on {k = k} limits {v} snapshots behind now_files after opened fits mounted
 -- ---- what the calls over memory and the table promise
 
 -- a call that was asked in these words
-pub asked_so : {B : Type 0} {G : blocks.Ghosts B} {a b : B} {s t : InodeFile} {files : Descriptors} (call asked : Command) (r : Result PreparedCall Failure) → call ≡ asked
-    → PreparesCall G a b s t files asked r → PreparesCall G a b s t files call r
-asked_so {G = G} {a = a} {b = b} {s = s} {t = t} {files = files} call asked r is told = subst (λ (k : Command). PreparesCall G a b s t files k r) (sym is) told
+pub asked_so : {B : Type 0} {G : blocks.Ghosts B} {a b : B} {s t : InodeFile} (said : Session) {files : Descriptors} (call asked : Command) (r : Result PreparedCall Failure) → call ≡ asked
+    → PreparesCall G a b s t said files asked r → PreparesCall G a b s t said files call r
+asked_so {G = G} {a = a} {b = b} {s = s} {t = t} said {files = files} call asked r is told = subst (λ (k : Command). PreparesCall G a b s t said files k r) (sym is) told

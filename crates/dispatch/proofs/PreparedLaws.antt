@@ -6,7 +6,9 @@ use Rattle.station.specs.declared.station.Station.{Ghosts}
 use Rattle.layout.specs.Limits.{Sizes}
 use Rattle.layout.specs.Places.{blocks_of}
 use Rattle.layout.specs.declared.root.Root.{Root}
-use Rattle.model.specs.States.{State, time_under}
+use Rattle.model.specs.declared.session.Session.{Session}
+use Rattle.model.specs.Sessions.{IsSession, kept_time}
+use Rattle.model.specs.States.{State}
 use Rattle.model.specs.Trees.{Description}
 use Rattle.model.specs.declared.command.Command.{Command}
 use Rattle.model.specs.declared.reply.Reply.TheVariants.{Refused}
@@ -40,16 +42,26 @@ module _ {S : Type 0} {G : Ghosts S} (f mid : System S G) (call : Command) {r : 
   same_view : mid.view ≡ f.view
   same_view = ap (λ (k : Parts). k.view) prepares.parts
 
-  pub prepared_parts : system_parts mid ≡ record (system_parts f) { kept = mid.blocks.buffers.kept; pending = mid.blocks.pending; inodes = mid.inodes; view = mid.view; files = mid.files }
+  same_session : mid.session ≡ f.session
+  same_session = ap (λ (k : Parts). k.session) prepares.parts
+
+  pub prepared_parts : system_parts mid ≡ record (system_parts f) { kept = mid.blocks.buffers.kept; pending = mid.blocks.pending; inodes = mid.inodes; view = mid.view; files = mid.files; session = mid.session }
   prepared_parts =
-      prepares.parts ∙ (λ i. record (system_parts f) { kept = mid.blocks.buffers.kept; pending = mid.blocks.pending; inodes = mid.inodes; view = sym same_view i; files = mid.files })
+      prepares.parts ∙ (λ i. record (system_parts f) {
+        kept = mid.blocks.buffers.kept;
+        pending = mid.blocks.pending;
+        inodes = mid.inodes;
+        view = sym same_view i;
+        files = mid.files;
+        session = sym same_session i;
+      })
 
   -- it keeps the same view of a snapshot, and shows the same state
   same_views : KeepsViews f mid.view
   same_views = views_same f same_view
 
   abbrev still_prepared : {s : State} (shown : ShowsState f s) → ShowsNext f mid shown s
-  still_prepared shown = still_shown f mid shown (stands_looked f shown prepares.prepares.looks) prepares.table prepares.fits
+  still_prepared shown = still_shown f mid shown (stands_looked f shown prepares.prepares.looks) same_session prepares.table prepares.fits
 
   -- so it serves what it served, and is as far ahead
   pub prepared_serving : KeepsServing f mid
@@ -67,12 +79,16 @@ prepared_at f mid call p prepares shown =
     let v = shown.running in
     let root : mid.root ≡ f.root = ap (λ (k : Parts). k.root) parts in
     let DoesOver = λ (d : ℕ → List ℕ) (r : Root). IfSome p.change (λ c. Does (blocks_of d) (inodes_of (whole (blocks_of d) r).active) mid.inodes v c.prepared (logged_by c)) in
-    let Comes = λ (g : Sizes) (t : ℕ → Option Description). DoesBeside (limits_of g) v t call p.reply p.table p.change in
+    let same : f.session ≡ mid.session = sym (ap (λ (k : Parts). k.session) parts) in
+    let Comes = λ (x : Session) (g : Sizes) (t : ℕ → Option Description). DoesBeside (limits_of g) x v t call p.reply p.table p.change in
     record {
-      timed = subst (λ (g : Sizes). IfSome p.change (λ c. c.time ≡ time_under (limits_of g))) (f.sizes ∙ ap (λ (r : Root). r.geometry) (sym root)) told.timed;
+      said = subst IsSession same prepares.said;
+      timed = subst (λ (x : Session). IfSome p.change (λ c. c.time ≡ kept_time (limits_of mid.root.geometry) x.time)) same
+          (subst (λ (g : Sizes). IfSome p.change (λ c. c.time ≡ kept_time (limits_of g) f.session.time)) (f.sizes ∙ ap (λ (r : Root). r.geometry) (sym root)) told.timed);
       does = subst (λ (r : Root). DoesOver (disk_of mid) r) (sym root) (subst (λ (d : ℕ → List ℕ). DoesOver d f.root) (same_disk told.looks.reads shown.honest) (on_volumes f shown told.does));
-      comes = subst (λ (t : ℕ → Option Description). Comes mid.root.geometry t) (sym prepares.table)
-          (subst (λ (g : Sizes). Comes g (table_of f.files)) (f.sizes ∙ ap (λ (r : Root). r.geometry) (sym root)) (on_open f shown told.answers));
+      comes = subst (λ (x : Session). Comes x mid.root.geometry (table_of mid.files)) same
+          (subst (λ (t : ℕ → Option Description). Comes f.session mid.root.geometry t) (sym prepares.table)
+          (subst (λ (g : Sizes). Comes f.session g (table_of f.files)) (f.sizes ∙ ap (λ (r : Root). r.geometry) (sym root)) (on_open f shown told.answers)));
     }
 
 -- it is refused, or a block wasn't read
@@ -83,20 +99,20 @@ refused_on {S} {G} f mid call not_sure e prepares =
     let stays = λ (s : State) (shown : ShowsState f s). still_prepared f mid call prepares shown in
     failed_by f mid call (prepared_parts f mid call prepares) (same_views f mid call prepares) {T = PreparedCall} e (answer_to (Err e)) refl not_sure looks.reads told.own stays (λ s shown. refused e told.answers s shown (stays s shown)) (λ s shown. never_damaged f shown told.damaged)
   where
-    refused : (e : Failure) → OnOpen (blocks_with G) f.blocks f.inodes f.files (λ v. IfOk (read_outcome {T = PreparedCall} (Err e)) (DoesCall (limits_of f.inodes.geometry) v (table_of f.files) call)) → (s : State) (shown : ShowsState f s)
+    refused : (e : Failure) → OnOpen (blocks_with G) f.blocks f.inodes f.files (λ v. IfOk (read_outcome {T = PreparedCall} (Err e)) (DoesCall (limits_of f.inodes.geometry) f.session v (table_of f.files) call)) → (s : State) (shown : ShowsState f s)
         → ShowsNext f mid shown s → IfOk (read_outcome {T = PreparedCall} (Err e)) (λ r. IfErr r (λ errno. IsAnswered f mid shown call (Refused errno)))
     refused (failures.Read e) answers s shown stays = tt
     refused (failures.Refused errno) answers s shown stays = record {
       next = s;
-      step = λ room stored. refused_to shown call errno (subst (λ (g : Sizes). DoesCall (limits_of g) shown.running (table_of f.files) call (Err errno)) f.sizes (on_open f shown answers)) room;
+      step = λ room stored. refused_to shown call errno (subst (λ (g : Sizes). DoesCall (limits_of g) f.session shown.running (table_of f.files) call (Err errno)) f.sizes (on_open f shown answers)) room;
       shows = stays;
     }
 
 -- ---- room for what it opens
 
-module _ {B : Type 0} {G : blocks.Ghosts B} {a b : B} {s t : InodeFile} {files : Descriptors} {call : Command} {p : PreparedCall} (told : PreparesCall G a b s t files call (Ok p)) where
+module _ {B : Type 0} {G : blocks.Ghosts B} {a b : B} {s t : InodeFile} (said : Session) {files : Descriptors} {call : Command} {p : PreparedCall} (told : PreparesCall G a b s t said files call (Ok p)) where
   -- there was none
-  pub no_memory : PreparesCall G a b s t files call (Err (failures.Read NoMemory))
+  pub no_memory : PreparesCall G a b s t said files call (Err (failures.Read NoMemory))
   no_memory =
       let looks = told.looks in
       record {

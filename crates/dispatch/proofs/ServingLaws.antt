@@ -1,5 +1,5 @@
 -- What a call that logs nothing comes to on a system that shows a state.
-use Rattle.std.proofs.Common.{◌≡◌, ◌⊎◌, ℕ, ℤ, inr, List, Option, Result, Ok, Err, refl, ap, sym, subst}
+use Rattle.std.proofs.Common.{◌≡◌, ◌⊎◌, ℕ, ℤ, inr, List, Option, None, Result, Ok, Err, refl, ap, sym, subst}
 use Rattle.std.specs.Prelude.{IsErrOf, IsFalse, IsTrue, IfErr, IfOk, OnErr, false}
 use Rattle.std.proofs.lemmas.Result.{IfOk-weaker}
 use Rattle.layout.specs.Limits.{Sizes}
@@ -9,10 +9,13 @@ use Rattle.station.specs.declared.station.Station.{Ghosts}
 use Rattle.model.specs.Circumstances.{IsSure}
 use Rattle.model.specs.Replies.{IsReplyTo}
 use Rattle.model.specs.Reading.{tells_extent}
-use Rattle.model.specs.Room.{Room, nothing}
-use Rattle.model.specs.States.{State, now_of, time_under}
+use Rattle.model.specs.Room.{Need, Room, nothing}
+use Rattle.model.specs.Sessions.{kept_time}
+use Rattle.model.specs.States.{State, now_of}
 use Rattle.model.specs.Steps.{WouldStep, calls, is_reading_call}
-use Rattle.model.specs.Trees.{Description}
+use Rattle.model.specs.Trees.{Description, Tree}
+use Rattle.model.specs.declared.limits.Limits.{Limits}
+use Rattle.model.specs.declared.time.Time.{Time}
 use Rattle.model.specs.Volumes.{tree_of}
 use Rattle.model.specs.declared.command.Command.{Command}
 use Rattle.model.specs.declared.command.Command.TheVariants as command
@@ -39,13 +42,24 @@ use Rattle.system.specs.Systems.{Parts, blocks_with, system_parts}
 use Rattle.system.specs.declared.system.System.{System}
 use Rattle.dispatch.proofs.ShowingLaws.{KeepsViews}
 
+-- a call that only reads comes to the same at any time
+pub asked_at : (now : Option Time) (limits : Limits) (t : Tree) (call : PathCall) (reply : Reply) (need : Need) → IsTrue (is_reading_call call) → calls limits None t call reply t need → calls limits now t call reply t need
+asked_at now limits t (calling.List path) reply need reading told = told
+asked_at now limits t (calling.Entries path after count) reply need reading told = told
+asked_at now limits t (calling.Stat path) reply need reading told = told
+asked_at now limits t (calling.Lstat path) reply need reading told = told
+asked_at now limits t (calling.Readlink path) reply need reading told = told
+asked_at now limits t (calling.Get path offset count) reply need reading told = told
+asked_at now limits t _ reply need reading told = cc
+
 module _ {m : Meaning} {k : Parts} {table : ℕ → Option Description} {s : State} (shown : IsShowing m k table s) where
   -- what is told of a system's volume is told of the state that it shows
-  pub told_of : (call : PathCall) (reply : Reply) {sizes : Sizes} → sizes ≡ k.root.geometry
-      → calls (limits_of sizes) (time_under (limits_of sizes)) (tree_of shown.running table) call reply (tree_of shown.running table) nothing → WouldCall s (command.Path call) reply s nothing
-  told_of call reply same told room = (
+  pub told_of : (call : PathCall) (reply : Reply) {sizes : Sizes} → sizes ≡ k.root.geometry → IsTrue (is_reading_call call)
+      → calls (limits_of sizes) None (tree_of shown.running table) call reply (tree_of shown.running table) nothing → WouldCall s (command.Path call) reply s nothing
+  told_of call reply same reading told room = (
     subst (λ (u : State). calls u.limits (now_of u) u.tree call reply u.tree nothing) (sym shown.state)
-        (subst (λ (z : Sizes). calls (limits_of z) (time_under (limits_of z)) (tree_of shown.running table) call reply (tree_of shown.running table) nothing) same told),
+        (asked_at (kept_time (limits_of k.root.geometry) k.session.time) (limits_of k.root.geometry) (tree_of shown.running table) call reply nothing reading
+        (subst (λ (z : Sizes). calls (limits_of z) None (tree_of shown.running table) call reply (tree_of shown.running table) nothing) same told)),
     refl,
   )
 
@@ -121,7 +135,7 @@ pub damaged_too : {T U : Type 0} (e : BlockError) → (IsErrOf {T = T} (Err e) D
 damaged_too e never is = never (ap (λ x. Err x) (let same : e ≡ Damaged = cc in same))
 
 module _ {S : Type 0} {G : Ghosts S} (old new : System S G) (call : Command)
-    (parts : system_parts new ≡ record (system_parts old) { kept = new.blocks.buffers.kept; pending = new.blocks.pending; inodes = new.inodes; view = new.view; files = new.files })
+    (parts : system_parts new ≡ record (system_parts old) { kept = new.blocks.buffers.kept; pending = new.blocks.pending; inodes = new.inodes; view = new.view; files = new.files; session = new.session })
     (view : KeepsViews old new.view) where
   -- it was answered
   pub answered : (reply : Reply) → SureOrNot old new call reply → ReadsBlocks (blocks_with G) IsFault old.blocks new.blocks (Ok reply) → IsReplyTo call reply → TellsNoFault reply

@@ -1,9 +1,10 @@
 -- A system of which a call looked: what it shows then, and that it serves that, or is ahead by it.
-use Rattle.std.proofs.Common.{◌≡◌, ◌≤◌, ◌∙◌, ℕ, List, Option, Result, arith, refl, sym, subst}
+use Rattle.std.proofs.Common.{◌≡◌, ◌≤◌, ◌∙◌, ℕ, List, Option, Result, arith, refl, sym, subst, ap}
 use Rattle.layout.specs.StateLimits.{limits_of}
 use Rattle.station.specs.Moments.{Meaning}
 use Rattle.station.specs.declared.station.Station.{Ghosts}
 use Rattle.layout.specs.Places.{blocks_of}
+use Rattle.model.specs.declared.session.Session.{Session}
 use Rattle.model.specs.Paths.{Name}
 use Rattle.model.specs.Records.{Extends}
 use Rattle.model.specs.States.{State}
@@ -52,7 +53,7 @@ module _ {S : Type 0} {G : Ghosts S} (f : System S G) {s : State} (shown : Shows
     λ first. subst (λ (n : InodeFile). memory_room first n shown.running ≤ memory_room first f.inodes shown.running) (sym same) (omega arith),
   )
 
-module _ {S : Type 0} {G : Ghosts S} (f new : System S G) {s : State} (shown : ShowsState f s) (stands : StandsStill f new.inodes shown) where
+module _ {S : Type 0} {G : Ghosts S} (f new : System S G) {s : State} (shown : ShowsState f s) (stands : StandsStill f new.inodes shown) (said : new.session ≡ f.session) where
   -- then the same state is shown, with the same open files
   abbrev pub still_shown : table_of new.files ≡ table_of f.files → ((v : Volume) → FitsVolume f.files v → FitsVolume new.files v) → ShowsNext f new shown s
   still_shown same fits = record {
@@ -63,12 +64,12 @@ module _ {S : Type 0} {G : Ghosts S} (f new : System S G) {s : State} (shown : S
     mounted = shown.mounted;
     opened = shown.opened ∙ sym same;
     fits = fits shown.running shown.fits;
-    state = shown.state;
+    state = shown.state ∙ ap (λ (x : Session). state_with (limits_of f.root.geometry) x shown.running s.tree.descriptors shown.snapshots) (sym said);
   }
 
   -- or one with other open files
   pub moved_shown : (after : ℕ → Option Description) → after ≡ table_of new.files → FitsVolume new.files shown.running → IsMounted shown.running after
-      → ShowsNext f new shown (state_with (limits_of f.root.geometry) shown.running after shown.snapshots)
+      → ShowsNext f new shown (state_with (limits_of f.root.geometry) f.session shown.running after shown.snapshots)
   moved_shown after opened fits mounted = record {
     running = shown.running;
     replays = λ last extends. extends;
@@ -77,7 +78,7 @@ module _ {S : Type 0} {G : Ghosts S} (f new : System S G) {s : State} (shown : S
     mounted = mounted;
     opened = opened;
     fits = fits;
-    state = refl;
+    state = ap (λ (x : Session). state_with (limits_of f.root.geometry) x shown.running after shown.snapshots) (sym said);
   }
 
 -- ---- a system that is ahead of what a cut leaves
@@ -91,6 +92,7 @@ module _ {m : Meaning} {k : Parts} {waits : Waits} {table : ℕ → Option Descr
     batch = ahead.batch;
     then_inodes = ahead.then_inodes;
     then_files = ahead.then_files;
+    then_session = ahead.then_session;
     then_table = ahead.then_table;
     served = with_view ahead.served view there;
     shown = with_view ahead.shown view here;
@@ -99,19 +101,20 @@ module _ {m : Meaning} {k : Parts} {waits : Waits} {table : ℕ → Option Descr
   }
 
   -- by another state that its records lead to
-  abbrev pub led_ahead : (now_inodes : InodeFile) (now_files : Descriptors) (running : Volume) (after : ℕ → Option Description) (next : State)
+  abbrev pub led_ahead : (now_inodes : InodeFile) (now_files : Descriptors) (now_session : Session) (running : Volume) (after : ℕ → Option Description) (next : State)
       → ((last : Volume) → Extends ahead.shown.running last → Extends running last) → IsInMemory (blocks_of (disk_over k m.seen.disk)) k.root now_inodes running
       → memory_room ahead.shown.first now_inodes running ≤ memory_room ahead.shown.first k.inodes ahead.shown.running
-      → IsMounted running after → after ≡ table_of now_files → FitsVolume now_files running → next ≡ state_with (limits_of k.root.geometry) running after ahead.shown.snapshots
-      → IsAhead m (record k { inodes = now_inodes; files = now_files }) waits after next kept
-  led_ahead now_inodes now_files running after next replays memory stores mounted opened fits state = record {
+      → IsMounted running after → after ≡ table_of now_files → FitsVolume now_files running → next ≡ state_with (limits_of k.root.geometry) now_session running after ahead.shown.snapshots
+      → IsAhead m (record k { inodes = now_inodes; files = now_files; session = now_session }) waits after next kept
+  led_ahead now_inodes now_files now_session running after next replays memory stores mounted opened fits state = record {
     waiting = ahead.waiting;
     batch = ahead.batch;
     then_inodes = ahead.then_inodes;
     then_files = ahead.then_files;
+    then_session = ahead.then_session;
     then_table = ahead.then_table;
     served = ahead.served;
-    shown = led ahead.shown now_inodes now_files running after next replays memory stores mounted opened fits state;
+    shown = led ahead.shown now_inodes now_files now_session running after next replays memory stores mounted opened fits state;
     base = ahead.base;
     behind = ahead.behind;
   }
@@ -148,7 +151,7 @@ pub views_same : {S : Type 0} {G : Ghosts S} (f : System S G) {view : Option Vie
 views_same f same disk shows v snapshots holds shown = subst (λ (o : Option View). ShowsSnapshot disk f.root.geometry snapshots o) (sym same) shown
 
 module _ {S : Type 0} {G : Ghosts S} (old new : System S G)
-    (parts : system_parts new ≡ record (system_parts old) { kept = new.blocks.buffers.kept; pending = new.blocks.pending; inodes = new.inodes; view = new.view; files = new.files })
+    (parts : system_parts new ≡ record (system_parts old) { kept = new.blocks.buffers.kept; pending = new.blocks.pending; inodes = new.inodes; view = new.view; files = new.files; session = new.session })
     {T : Type 0} {r : Result T BlockError} (reads : ReadsBlocks (blocks_with G) IsFault old.blocks new.blocks r) (view : KeepsViews old new.view) where
   abbrev disk : ℕ → List ℕ
   disk = blocks_of (disk_of old)
@@ -163,7 +166,7 @@ module _ {S : Type 0} {G : Ghosts S} (old new : System S G)
       let over = stays_viewed old new.blocks new.view s (reads_on reads) reads.same served (view disk served.shows served.first served.snapshots served.under.holds served.view) in
       let memory = subst (λ (d : ℕ → List ℕ). InMemory d on.running) (same_disk reads served.honest) on.memory in
       let it = subst On (sym parts) (
-        led over new.inodes new.files on.running next.tree.descriptors next on.replays memory (on.stored served.first) on.mounted on.opened on.fits on.state,
+        led over new.inodes new.files new.session on.running next.tree.descriptors next on.replays memory (on.stored served.first) on.mounted on.opened on.fits on.state,
         refl,
         refl,
         refl,
@@ -180,7 +183,7 @@ module _ {S : Type 0} {G : Ghosts S} (old new : System S G)
       let over = read_ahead viewed (meaning_of new) new.blocks.buffers.kept new.blocks.pending old.inodes (reads_on reads) reads.same (λ v over. over) refl (λ n k least. least) in
       let memory = subst (λ (d : ℕ → List ℕ). InMemory d on.running) (same_disk reads ahead.served.honest) on.memory in
       let it = subst On (sym parts) (
-        led_ahead over new.inodes new.files on.running next.tree.descriptors next on.replays memory (on.stored ahead.shown.first) on.mounted on.opened on.fits on.state,
+        led_ahead over new.inodes new.files new.session on.running next.tree.descriptors next on.replays memory (on.stored ahead.shown.first) on.mounted on.opened on.fits on.state,
         refl,
         refl,
       ) in

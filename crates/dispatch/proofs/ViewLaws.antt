@@ -7,7 +7,7 @@ use Rattle.model.specs.Laws.{MountsForget}
 use Rattle.model.specs.Paths.{Name}
 use Rattle.model.specs.Records.{without_orphans}
 use Rattle.model.specs.Room.{nothing}
-use Rattle.model.specs.States.{State, now_of, time_under}
+use Rattle.model.specs.States.{State, now_of}
 use Rattle.model.specs.Steps.{Step, calls, frozen, is_reading_call, passing, says, views}
 use Rattle.model.specs.Trees.{Description, Tree}
 use Rattle.model.specs.Volumes.{Volume, IsVolume, tree_of}
@@ -34,9 +34,9 @@ use Rattle.system.proofs.ViewLaws.{closed}
 
 -- what is answered on a volume is answered on the tree that a snapshot of it has
 pub frozen_told : MountsForget → ReadingForgets → (limits : Limits) (v : Volume) (c : PathCall) (reply : Reply) → IsVolume limits v → IsTrue (is_reading_call c)
-    → calls limits (time_under limits) (tree_of v closed) c reply (tree_of v closed) nothing → calls limits (time_under limits) (tree_of (without_orphans v) closed) c reply (tree_of (without_orphans v) closed) nothing
+    → calls limits None (tree_of v closed) c reply (tree_of v closed) nothing → calls limits None (tree_of (without_orphans v) closed) c reply (tree_of (without_orphans v) closed) nothing
 frozen_told forgets reads limits v c reply volume reading told =
-    reads limits (time_under limits) (tree_of v closed) (tree_of (without_orphans v) closed) c reply (forgets limits v v closed volume (extends_itself v)) reading told
+    reads limits None (tree_of v closed) (tree_of (without_orphans v) closed) c reply (forgets limits v v closed volume (extends_itself v)) reading told
 
 module _ (s : State) (name : Name) (c : PathCall) where
   abbrev viewed : Bool → Option (Name × Tree) → Reply → Type 0

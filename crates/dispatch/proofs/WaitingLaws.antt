@@ -1,5 +1,6 @@
 -- A call whose record waits, on a system that is ahead of what a cut leaves.
 use Rattle.std.proofs.Common.{◌≡◌, ◌+◌, ◌≤◌, ◌∙◌, ℕ, List, Option, ap, arith, subst, sym}
+use Rattle.model.specs.declared.session.Session.{Session}
 use Rattle.model.specs.declared.limits.Limits.{Limits}
 use Rattle.layout.specs.StateLimits.{limits_of}
 use Rattle.station.specs.Moments.{Meaning}
@@ -24,19 +25,19 @@ use Rattle.dispatch.specs.Waiting.{IfLogs, IsDoneAhead}
 use Rattle.dispatch.proofs.ShowingLaws.{AheadOn, led_ahead}
 
 -- behind a record, with other open files of the same volume
-pub moved_behind : {m : Meaning} {k : Parts} {waits : Waits} {table : ℕ → Option Description} (limits : Limits) {v : Volume} (snapshots : List (Name × Tree)) {kept : State}
-    (ahead : IsAhead m k waits table (state_with limits v table snapshots) kept) → ahead.shown.running ≡ v → (now_files : Descriptors) (after : ℕ → Option Description)
-    → after ≡ table_of now_files → FitsVolume now_files v → IsMounted v after → IsAhead m (record k { files = now_files }) waits after (state_with limits v after snapshots) kept
-moved_behind {k = k} limits {v} snapshots ahead running now_files after opened fits mounted =
-    led_ahead ahead k.inodes now_files ahead.shown.running after (state_with limits v after snapshots) (λ last extends. extends) ahead.shown.memory (omega arith)
+pub moved_behind : {m : Meaning} {k : Parts} {waits : Waits} {table : ℕ → Option Description} (limits : Limits) (said : Session) {v : Volume} (snapshots : List (Name × Tree)) {kept : State}
+    (ahead : IsAhead m k waits table (state_with limits said v table snapshots) kept) → ahead.shown.running ≡ v → (now_files : Descriptors) (after : ℕ → Option Description)
+    → after ≡ table_of now_files → FitsVolume now_files v → IsMounted v after → IsAhead m (record k { files = now_files }) waits after (state_with limits said v after snapshots) kept
+moved_behind {k = k} limits said {v} snapshots ahead running now_files after opened fits mounted =
+    led_ahead ahead k.inodes now_files k.session ahead.shown.running after (state_with limits said v after snapshots) (λ last extends. extends) ahead.shown.memory (omega arith)
     (subst (λ (w : Volume). IsMounted w after) (sym running) mounted) opened (subst (λ (w : Volume). FitsVolume now_files w) (sym running) fits)
     (ap (λ (u : State). record u { tree = record u.tree { descriptors = after } }) ahead.shown.state)
 
 -- as many blocks are free behind a look
 pub same_free : {S : Type 0} {G : Ghosts S} (f mid : System S G) {waits : Waits} {s kept : State} (ahead : HasStateAhead f waits s.tree.descriptors s kept) {running : Volume} → AheadOn f mid ahead s running → mid.free ≡ f.free
 same_free {G = G} f mid {s = s} {kept = kept} ahead on =
-    free_with {G = G} on.still.then_inodes on.still.then_files mid on.still.then_table kept on.still.served ∙ ap free_of on.settled
-    ∙ sym (free_with {G = G} ahead.then_inodes ahead.then_files f ahead.then_table kept ahead.served)
+    free_with {G = G} on.still.then_inodes on.still.then_files on.still.then_session mid on.still.then_table kept on.still.served ∙ ap free_of on.settled
+    ∙ sym (free_with {G = G} ahead.then_inodes ahead.then_files ahead.then_session f ahead.then_table kept ahead.served)
 
 -- it is done behind another system that has the same room
 pub done_from : {S : Type 0} {G : Ghosts S} (old mid new : System S G) (before after : Waits) (s kept : State) (call : Command) → mid.pledged ≡ old.pledged → mid.root ≡ old.root → mid.free ≡ old.free

@@ -1,12 +1,12 @@
 -- What calls are answered that log nothing.
-use Rattle.std.specs.Prelude.{◌≡◌, ◌⊎◌, Result, Ok, Err, IfOk, IsErrOf, MatchResult}
+use Rattle.std.specs.Prelude.{◌≡◌, ◌⊎◌, None, Result, Ok, Err, IfOk, IsErrOf, MatchResult}
 use Rattle.model.specs.declared.limits.Limits.{Limits}
 use Rattle.station.specs.declared.station.Station.{Ghosts}
 use Rattle.model.specs.Circumstances.{IsSure}
 use Rattle.model.specs.Outcomes.{Outcome}
 use Rattle.model.specs.Replies.{IsReplyTo}
 use Rattle.model.specs.Room.{nothing}
-use Rattle.model.specs.States.{State, time_under}
+use Rattle.model.specs.States.{State}
 use Rattle.model.specs.Steps.{calls}
 use Rattle.model.specs.Trees.{Tree}
 use Rattle.model.specs.declared.command.Command.{Command}
@@ -29,9 +29,9 @@ use Rattle.system.specs.declared.system.System.{System}
 use Rattle.dispatch.specs.Serving.{AnswersAtOnce, IsAtOnce, IsSureOn, TellsNoFault, WouldCallOn}
 use Rattle.dispatch.specs.Showing.{ShowsNext, ShowsState}
 
--- what a call by a path comes to on a tree within limits, at the time of calls
+-- what a call by a path comes to on a tree within limits, where it only reads: whatever the time
 abbrev pub asks : PathCall → Limits → Tree → Outcome
-asks call limits t = calls limits (time_under limits) t call
+asks call limits t = calls limits None t call
 
 -- a reply, or a refusal, as it is answered
 abbrev pub answered_reply : Result Reply Errno → Reply
@@ -73,6 +73,7 @@ pub record Answers {S : Type 0} {G : Ghosts S} (old new : System S G) (call : Co
     inodes = new.inodes;
     view = new.view;
     files = new.files;
+    session = new.session;
   }
   pub reads : ReadsBlocks (blocks_with G) IsFault old.blocks new.blocks result
   pub view : OnShown (blocks_with G) old.blocks old.root old.view

@@ -1,5 +1,6 @@
 -- What calls on descriptors come to on a mounted system.
 use Rattle.std.specs.Prelude.{ℕ, ◌≡◌, ◌≤◌, ◌<◌, Bool, true, false, List, IsSome, Option, Some, None}
+use Rattle.model.specs.declared.session.Session.{Session}
 use Rattle.model.specs.declared.limits.Limits.{Limits}
 use Rattle.model.specs.Paths.{Name}
 use Rattle.model.specs.Room.{Need}
@@ -34,9 +35,9 @@ is_looking_call (command.Fstat fd) = true
 is_looking_call _ = false
 
 -- so a call on a mounted volume with these descriptors would be answered, and these would be left
-abbrev pub WouldLead : Limits → Volume → (ℕ → Option Description) → Command → Reply → Volume → (ℕ → Option Description) → Need → Type 0
-WouldLead limits v table call reply w after need =
-    (snapshots : List (Name × Tree)) → WouldCall (state_with limits v table snapshots) call reply (state_with limits w after snapshots) need
+abbrev pub WouldLead : Limits → Session → Volume → (ℕ → Option Description) → Command → Reply → Volume → (ℕ → Option Description) → Need → Type 0
+WouldLead limits said v table call reply w after need =
+    (snapshots : List (Name × Tree)) → WouldCall (state_with limits said v table snapshots) call reply (state_with limits said w after snapshots) need
 
 -- the descriptors behind what a call does to them
 abbrev pub moved_table : TableMove → (ℕ → Option Description) → ℕ → Option Description

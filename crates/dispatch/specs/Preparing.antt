@@ -7,7 +7,8 @@ use Rattle.layout.specs.Record.{Change, Edit, stamped, write}
 use Rattle.model.specs.Records.{Applies, applied, work_of}
 use Rattle.model.specs.Replies.{IsReplyTo}
 use Rattle.model.specs.Room.{logs, nothing}
-use Rattle.model.specs.States.{time_under}
+use Rattle.model.specs.declared.session.Session.{Session}
+use Rattle.model.specs.Sessions.{IsSession, kept_time}
 use Rattle.model.specs.Steps.{is_reading_call}
 use Rattle.model.specs.Trees.{Description}
 use Rattle.model.specs.Volumes.{IsMounted, Volume, swept}
@@ -73,23 +74,23 @@ KeepsRecord (Writes number offset bytes) = (1 ≤ length bytes.now) × (length b
 
 -- What a call with this reply comes to that does what this record says, behind which a file may
 -- have to be swept, and this to the table: it applies, and needs room for its work.
-abbrev pub DoesRecord : Limits → Volume → (ℕ → Option Description) → Command → Reply → TableMove → Change → Type 0
-DoesRecord limits v table call reply move change =
+abbrev pub DoesRecord : Limits → Session → Volume → (ℕ → Option Description) → Command → Reply → TableMove → Change → Type 0
+DoesRecord limits said v table call reply move change =
     let after = swept table (applied change v) in
     Applies limits v change × IsMounted after table × FitsMove after move
-    × WouldLead limits v table call reply after (moved_table move table) (logs (work_of v change))
+    × WouldLead limits said v table call reply after (moved_table move table) (logs (work_of v change))
 
 -- the same of a call that may do nothing else
-abbrev pub DoesBeside : Limits → Volume → (ℕ → Option Description) → Command → Reply → TableMove → Option PreparedChange → Type 0
-DoesBeside limits v table call reply move None =
-    FitsMove v move × WouldLead limits v table call reply v (moved_table move table) nothing
-DoesBeside limits v table call reply move (Some c) =
-    DoesRecord limits v table call reply move (logged_by c)
+abbrev pub DoesBeside : Limits → Session → Volume → (ℕ → Option Description) → Command → Reply → TableMove → Option PreparedChange → Type 0
+DoesBeside limits said v table call reply move None =
+    FitsMove v move × WouldLead limits said v table call reply v (moved_table move table) nothing
+DoesBeside limits said v table call reply move (Some c) =
+    DoesRecord limits said v table call reply move (logged_by c)
 
 -- what a call comes to: a refusal, or what is to be done
-abbrev pub DoesCall : Limits → Volume → (ℕ → Option Description) → Command → Result PreparedCall Errno → Type 0
-DoesCall limits v table call (Err errno) = WouldLead limits v table call (Refused errno) v table nothing
-DoesCall limits v table call (Ok p) = DoesBeside limits v table call p.reply p.table p.change
+abbrev pub DoesCall : Limits → Session → Volume → (ℕ → Option Description) → Command → Result PreparedCall Errno → Type 0
+DoesCall limits said v table call (Err errno) = WouldLead limits said v table call (Refused errno) v table nothing
+DoesCall limits said v table call (Ok p) = DoesBeside limits said v table call p.reply p.table p.change
 
 -- a change whose record says what it does, if there is one
 abbrev pub said_change : Option Changing → Option PreparedChange
@@ -111,9 +112,9 @@ pub record MayDo (inodes : ℕ) (files : Descriptors) (call : Command) (p : Prep
 
 -- What a call is to do is prepared on the image in memory, as far as nothing of it is seen yet; or
 -- why it is refused.
-abbrev pub PreparesCall : {B : Type 0} → blocks.Ghosts B → B → B → InodeFile → InodeFile → Descriptors → Command → Result PreparedCall Failure → Type 0
-PreparesCall G blocks after s t files call result =
-    PreparesOpen of_prepared (MayDo s.geometry.inodes files call) (time_under (limits_of s.geometry)) G blocks after s t files (λ v. DoesCall (limits_of s.geometry) v (table_of files) call) result
+abbrev pub PreparesCall : {B : Type 0} → blocks.Ghosts B → B → B → InodeFile → InodeFile → Session → Descriptors → Command → Result PreparedCall Failure → Type 0
+PreparesCall G blocks after s t said files call result =
+    PreparesOpen of_prepared (MayDo s.geometry.inodes files call) (kept_time (limits_of s.geometry) said.time) G blocks after s t files (λ v. DoesCall (limits_of s.geometry) said v (table_of files) call) result
 
 -- what is prepared can be done to what a system has: the log takes its record, and memory has room
 -- for its change, and for what it opens
@@ -133,7 +134,8 @@ pub record PreparesOn {S : Type 0} {G : Ghosts S} (old new : System S G) (call :
     inodes = new.inodes;
     files = new.files;
   }
-  pub prepares : PreparesCall (blocks_with G) old.blocks new.blocks old.inodes new.inodes old.files call result
+  pub prepares : PreparesCall (blocks_with G) old.blocks new.blocks old.inodes new.inodes old.session old.files call result
+  pub said : IsSession old.session
   pub table : table_of new.files ≡ table_of old.files
   pub fits : (v : Volume) → FitsVolume old.files v → FitsVolume new.files v
   pub can : IfOk result (CanCarryOut (system_parts new))
@@ -141,6 +143,7 @@ pub record PreparesOn {S : Type 0} {G : Ghosts S} (old new : System S G) (call :
 -- where memory stands for this volume over this disk, it does what the call does, at the time of
 -- calls
 pub record IsPreparedAt (k : Parts) (disk : ℕ → List ℕ) (v : Volume) (call : Command) (p : PreparedCall) : Type 0 where
-  pub timed : IfSome p.change (λ c. c.time ≡ time_under (limits_of k.root.geometry))
+  pub said : IsSession k.session
+  pub timed : IfSome p.change (λ c. c.time ≡ kept_time (limits_of k.root.geometry) k.session.time)
   pub does : IfSome p.change (λ c. Does disk (inodes_of (whole disk k.root).active) k.inodes v c.prepared (logged_by c))
-  pub comes : DoesBeside (limits_of k.root.geometry) v (table_of k.files) call p.reply p.table p.change
+  pub comes : DoesBeside (limits_of k.root.geometry) k.session v (table_of k.files) call p.reply p.table p.change

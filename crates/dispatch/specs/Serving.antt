@@ -41,11 +41,12 @@ IsCall (command.SnapDelete name) = ⊥
 IsCall (command.SnapRestore name) = ⊥
 IsCall call = Unit {0}
 
--- The command takes no memory and calls no device, whatever the images hold: `lseek`, `fsync`,
+-- The command takes no memory and calls no device, whatever the images hold: `lseek`, `fsync`, `at`,
 -- `df`, `statfs`, and `close` but of a file that has no link.
 abbrev pub IsAtOnce : Descriptors → Command → Type 0
 IsAtOnce files (command.Lseek fd whence offset) = Unit {0}
 IsAtOnce files (command.Fsync fd) = Unit {0}
+IsAtOnce files (command.At seconds nanoseconds) = Unit {0}
 IsAtOnce files command.Df = Unit {0}
 IsAtOnce files command.Statfs = Unit {0}
 IsAtOnce files (command.Close fd) = IsLinked files fd

@@ -37,7 +37,7 @@ pub record IsShowing (m : Meaning) (k : Parts) (table : ℕ → Option Descripti
       k.view
   pub opened : table ≡ table_of k.files
   pub fits : FitsVolume k.files running
-  pub state : s ≡ state_with (limits_of k.root.geometry) running table snapshots
+  pub state : s ≡ state_with (limits_of k.root.geometry) k.session running table snapshots
 
 -- so does a system
 abbrev pub ShowsState : {S : Type 0} {G : Ghosts S} → System S G → State → Type 0
@@ -56,4 +56,4 @@ pub record ShowsNext {S : Type 0} {G : Ghosts S} (old new : System S G) {s : Sta
   pub opened : next.tree.descriptors ≡ table_of new.files
   pub fits : FitsVolume new.files running
   pub state : next
-      ≡ state_with (limits_of old.root.geometry) running next.tree.descriptors shown.snapshots
+      ≡ state_with (limits_of old.root.geometry) new.session running next.tree.descriptors shown.snapshots

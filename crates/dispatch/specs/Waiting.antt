@@ -67,6 +67,7 @@ pub record WaitsBehind {S : Type 0} {G : Ghosts S} (old new : System S G) (befor
     inodes = new.inodes;
     view = new.view;
     files = new.files;
+    session = new.session;
   }
   pub pending : new.blocks.pending ≡ old.blocks.pending
   pub no_fault : IfOk result TellsNoFault

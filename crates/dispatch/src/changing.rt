@@ -64,12 +64,13 @@ pub(crate) fn prepare<'a, S: Station>(
     requires { IsFalse (only_looks call.now) }
     ensures { PreparesOn system.old system.new call.now result }
 {
-    let now = system.now();
+    let session = system.session;
+    session.fits();
     let prepared = prepare_call(
         system.alloc,
         &mut system.inodes,
         &mut system.blocks,
-        now,
+        &system.session,
         &system.files,
         call,
     )?;

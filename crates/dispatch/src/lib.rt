@@ -10,6 +10,7 @@ mod path_change;
 mod prepared_call;
 mod preparing;
 mod reading;
+mod saying;
 mod serving;
 mod snapshot_reading;
 mod table_move;

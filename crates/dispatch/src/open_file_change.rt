@@ -1,16 +1,14 @@
-//! Calls on descriptors that change something, as they are prepared at a time, on the image in memory
+//! Calls on descriptors that change something, as they are prepared for a session, on the image in memory
 //! and the table of open files, as far as nothing of it is seen yet; or why they are refused. NoMemory;
 //! Device where a read failed; Damaged where a block on the way is outside its format.
 
 ghost use Rattle.std.specs.Prelude.{◌≡◌};
-ghost use Rattle.layout.specs.StateLimits.{limits_of};
-ghost use Rattle.model.specs.States.{time_under};
 ghost use Rattle.model.specs.declared.command.Command.TheVariants as command;
 ghost use Rattle.records.specs.Opened.{HasNumbers};
 ghost use Rattle.files.specs.Opening.{opening_reply};
 ghost use Rattle.dispatch.specs.Preparing.{PreparesCall, opening_call};
 
-use crate::prepared_call::{CallRecord, PreparedCall, PreparedChange, said};
+use crate::prepared_call::{CallRecord, PreparedCall, PreparedChange, said, time_of};
 use crate::table_move::TableMove;
 use buffers::Blocks;
 use descriptors::Descriptors;
@@ -19,7 +17,7 @@ use files::{
     prepare_write,
 };
 use inofile::InodeFile;
-use model::{Flags, Mode, Reply, Time};
+use model::{Flags, Mode, Reply, Session};
 use records::Failure;
 use std::alloc::Global;
 
@@ -28,15 +26,15 @@ pub(crate) fn prepare_writing<'a, B: Blocks>(
     alloc: Global,
     inodes: &mut InodeFile,
     blocks: &mut B,
-    now: Option<Time>,
+    session: &Session,
     files: &Descriptors,
     fd: u32,
     bytes: &'a [u8],
 ) -> Result<PreparedCall<'a>, Failure>
-    requires { now ≡ time_under (limits_of inodes.old.geometry) }
-    ensures { PreparesCall B.Blocks blocks.old blocks.new inodes.old inodes.new files.now
+    ensures { PreparesCall B.Blocks blocks.old blocks.new inodes.old inodes.new session.now files.now
         (command.Write fd bytes.now) result }
 {
+    let now = time_of(session, inodes);
     let time = now;
     let found = prepare_write(alloc, inodes, blocks, now, files, fd, bytes)?;
     match found {
@@ -74,16 +72,16 @@ pub(crate) fn prepare_writing_at<'a, B: Blocks>(
     alloc: Global,
     inodes: &mut InodeFile,
     blocks: &mut B,
-    now: Option<Time>,
+    session: &Session,
     files: &Descriptors,
     fd: u32,
     offset: i64,
     bytes: &'a [u8],
 ) -> Result<PreparedCall<'a>, Failure>
-    requires { now ≡ time_under (limits_of inodes.old.geometry) }
-    ensures { PreparesCall B.Blocks blocks.old blocks.new inodes.old inodes.new files.now
+    ensures { PreparesCall B.Blocks blocks.old blocks.new inodes.old inodes.new session.now files.now
         (command.Pwrite fd offset bytes.now) result }
 {
+    let now = time_of(session, inodes);
     let time = now;
     let found = prepare_pwrite(alloc, inodes, blocks, now, files, fd, offset, bytes)?;
     match found {
@@ -117,16 +115,16 @@ pub(crate) fn prepare_truncating<'a, B: Blocks>(
     alloc: Global,
     inodes: &mut InodeFile,
     blocks: &mut B,
-    now: Option<Time>,
+    session: &Session,
     files: &Descriptors,
     fd: u32,
     size: i64,
 ) -> Result<PreparedCall<'a>, Failure>
-    requires numbers { HasNumbers inodes.old.geometry.inodes files.now }
-    requires time { now ≡ time_under (limits_of inodes.old.geometry) }
-    ensures { PreparesCall B.Blocks blocks.old blocks.new inodes.old inodes.new files.now
+    requires { HasNumbers inodes.old.geometry.inodes files.now }
+    ensures { PreparesCall B.Blocks blocks.old blocks.new inodes.old inodes.new session.now files.now
         (command.Ftruncate fd size) result }
 {
+    let now = time_of(session, inodes);
     let found = prepare_ftruncate(alloc, inodes, blocks, now, files, fd, size)?;
     Ok(PreparedCall {
         reply: Reply::Done,
@@ -140,15 +138,15 @@ pub(crate) fn prepare_changing_mode<'a, B: Blocks>(
     alloc: Global,
     inodes: &mut InodeFile,
     blocks: &mut B,
-    now: Option<Time>,
+    session: &Session,
     files: &Descriptors,
     fd: u32,
     mode: Mode,
 ) -> Result<PreparedCall<'a>, Failure>
-    requires { now ≡ time_under (limits_of inodes.old.geometry) }
-    ensures { PreparesCall B.Blocks blocks.old blocks.new inodes.old inodes.new files.now
+    ensures { PreparesCall B.Blocks blocks.old blocks.new inodes.old inodes.new session.now files.now
         (command.Fchmod fd mode) result }
 {
+    let now = time_of(session, inodes);
     let found = prepare_fchmod(alloc, inodes, blocks, now, files, fd, mode)?;
     Ok(PreparedCall {
         reply: Reply::Done,
@@ -164,7 +162,7 @@ pub(crate) fn prepare_opening<'a, B: Blocks>(
     alloc: Global,
     inodes: &mut InodeFile,
     blocks: &mut B,
-    now: Option<Time>,
+    session: &Session,
     files: &Descriptors,
     path: &[u8],
     flags: Flags,
@@ -172,10 +170,10 @@ pub(crate) fn prepare_opening<'a, B: Blocks>(
     below: u32,
     tells: bool,
 ) -> Result<PreparedCall<'a>, Failure>
-    requires { now ≡ time_under (limits_of inodes.old.geometry) }
-    ensures { PreparesCall B.Blocks blocks.old blocks.new inodes.old inodes.new files.now
+    ensures { PreparesCall B.Blocks blocks.old blocks.new inodes.old inodes.new session.now files.now
         (opening_call tells path.now flags mode below) result }
 {
+    let now = time_of(session, inodes);
     let opening = prepare_open(alloc, inodes, blocks, now, files, path, flags, mode, below)?;
     let reply = reply_of(&opening, tells);
     let Opening {

@@ -2,6 +2,7 @@
 
 ghost use Rattle.std.specs.Prelude.{ℕ, IfOk, IsTrue};
 ghost use Rattle.model.specs.declared.limits.Limits.{Limits};
+ghost use Rattle.model.specs.declared.session.Session.{Session};
 ghost use Rattle.model.specs.Replies.{IsReplyTo};
 ghost use Rattle.model.specs.Room.{nothing};
 ghost use Rattle.model.specs.Volumes.{IsMounted, Volume};
@@ -27,8 +28,8 @@ pub(crate) fn answer_from_table(files: &mut Descriptors, call: &Command<'_>) -> 
     ensures no_fault { TellsNoFault result }
     ensures kind { IsReplyTo call.now result }
     ensures no_want { TellsNoWant result }
-    ensures answers { (limits : Limits) (v : Volume) → FitsVolume files.old v
-        → WouldLead limits v (table_of files.old) call.now result v (table_of files.new) nothing }
+    ensures answers { (limits : Limits) (said : Session) (v : Volume) → FitsVolume files.old v
+        → WouldLead limits said v (table_of files.old) call.now result v (table_of files.new) nothing }
     ensures fits { (v : Volume) → FitsVolume files.old v → FitsVolume files.new v }
     ensures mounted { (v : Volume) → IsMounted v (table_of files.old)
         → IsMounted v (table_of files.new) }
@@ -64,7 +65,8 @@ pub(crate) fn read_open_file<B: Blocks>(
     ensures no_fault { IfOk result TellsNoFault }
     ensures kind { IfOk result (IsReplyTo call.now) }
     ensures tells { AnswersMoving B.Blocks blocks.old blocks.new inodes.old inodes.new files.old
-        files.new (λ v r. (limits : Limits) → WouldLead limits v (table_of files.old) call.now
+        files.new (λ v r. (limits : Limits) (said : Session)
+        → WouldLead limits said v (table_of files.old) call.now
         (answered_reply r) v (table_of files.new) nothing) result }
 {
     match call {

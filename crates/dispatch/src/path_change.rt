@@ -1,9 +1,8 @@
-//! What calls by paths are to change, at a time.
+//! What calls by paths are to change, at the time of their session.
 
 ghost use Rattle.std.specs.Prelude.{◌≡◌, IsFalse};
 ghost use Rattle.layout.specs.StateLimits.{limits_of};
 ghost use Rattle.model.specs.Attributes.{KeepsTime};
-ghost use Rattle.model.specs.States.{time_under};
 ghost use Rattle.model.specs.Steps.{is_reading_call};
 ghost use Rattle.model.specs.declared.command.Command.TheVariants as command;
 ghost use Rattle.model.specs.declared.command.PathCall.TheVariants as call;
@@ -12,12 +11,12 @@ ghost use Rattle.descriptors.specs.declared.table.Descriptors.{Descriptors};
 ghost use Rattle.dispatch.specs.Changing.{CallComes, RecordComes, is_writing_call, may_stay};
 ghost use Rattle.dispatch.specs.Preparing.{PreparesCall};
 
-use crate::prepared_call::{CallRecord, PreparedCall, PreparedChange, said};
+use crate::prepared_call::{CallRecord, PreparedCall, PreparedChange, said, time_of};
 use crate::table_move::TableMove;
 use buffers::Blocks;
 use calls::{Changing, Storing};
 use inofile::InodeFile;
-use model::{PathCall, Reply, Time};
+use model::{PathCall, Reply, Session, Time};
 use records::Failure;
 use std::alloc::Global;
 
@@ -28,20 +27,27 @@ pub(crate) fn prepare_path_call<'a, B: Blocks>(
     alloc: Global,
     inodes: &mut InodeFile,
     blocks: &mut B,
-    now: Option<Time>,
+    session: &Session,
     call: &'a PathCall<'_>,
 ) -> Result<PreparedCall<'a>, Failure>
-    requires changes { IsFalse (is_reading_call call.now) }
-    requires time { now ≡ time_under (limits_of inodes.old.geometry) }
+    requires { IsFalse (is_reading_call call.now) }
     ensures { (files : Descriptors) → PreparesCall B.Blocks blocks.old blocks.new inodes.old inodes.new
-        files (command.Path call.now) result }
+        session.now files (command.Path call.now) result }
 {
     match call {
         PathCall::Store { path, offset, data } => {
             let bytes = data.as_bytes();
-            prepare_storing(alloc, inodes, blocks, now, path.as_bytes(), *offset, bytes)
+            prepare_storing(
+                alloc,
+                inodes,
+                blocks,
+                session,
+                path.as_bytes(),
+                *offset,
+                bytes,
+            )
         }
-        _ => prepare_done(alloc, inodes, blocks, now, call),
+        _ => prepare_done(alloc, inodes, blocks, session, call),
     }
 }
 
@@ -50,15 +56,15 @@ fn prepare_storing<'a, B: Blocks>(
     alloc: Global,
     inodes: &mut InodeFile,
     blocks: &mut B,
-    now: Option<Time>,
+    session: &Session,
     path: &[u8],
     offset: i64,
     bytes: &'a [u8],
 ) -> Result<PreparedCall<'a>, Failure>
-    requires { now ≡ time_under (limits_of inodes.old.geometry) }
     ensures { (files : Descriptors) → PreparesCall B.Blocks blocks.old blocks.new inodes.old inodes.new
-        files (command.Path (call.Store path.now offset bytes.now)) result }
+        session.now files (command.Path (call.Store path.now offset bytes.now)) result }
 {
+    let now = time_of(session, inodes);
     let time = now;
     let found = calls::store(alloc, inodes, blocks, now, path, offset, bytes)?;
     match found {
@@ -96,15 +102,15 @@ fn prepare_done<'a, B: Blocks>(
     alloc: Global,
     inodes: &mut InodeFile,
     blocks: &mut B,
-    now: Option<Time>,
+    session: &Session,
     call: &PathCall<'_>,
 ) -> Result<PreparedCall<'a>, Failure>
     requires changes { IsFalse (is_reading_call call.now) }
     requires writes_none { IsFalse (is_writing_call call.now) }
-    requires time { now ≡ time_under (limits_of inodes.old.geometry) }
     ensures { (files : Descriptors) → PreparesCall B.Blocks blocks.old blocks.new inodes.old inodes.new
-        files (command.Path call.now) result }
+        session.now files (command.Path call.now) result }
 {
+    let now = time_of(session, inodes);
     let changing = prepare_change(alloc, inodes, blocks, now, call)?;
     Ok(PreparedCall {
         reply: Reply::Done,

@@ -1,14 +1,18 @@
 //! Calls that are prepared: what they are to do, of which nothing is seen yet.
 
 ghost use Rattle.std.specs.Prelude.{◌≡◌, ◌≤◌, ◌+◌, Bool, length};
+ghost use Rattle.layout.specs.StateLimits.{limits_of};
+ghost use Rattle.model.specs.Attributes.{KeepsTime};
+ghost use Rattle.model.specs.Sessions.{kept_time};
 ghost use Rattle.layout.specs.Record.{body_of, change_of, FitsTime, IsChange, KeepsLimits, stamped, write};
 ghost use Rattle.model.specs.declared.limits.TheConstants.{TRANSFER_BYTES};
 ghost use Rattle.dispatch.specs.Preparing.{KeepsRecord, recorded, said_change};
 
 use crate::table_move::TableMove;
 use calls::{Changing, OwnedChange};
+use inofile::InodeFile;
 use layout::{Edit, InodeNumber, Record};
-use model::{Reply, Time};
+use model::{Reply, Session, Time};
 use records::Prepared;
 
 /// The record of a call.
@@ -81,6 +85,17 @@ fn write_record(time: Option<Time>, number: InodeNumber, offset: u64, bytes: &[u
             bytes,
         },
     }
+}
+
+/// The time of a session's calls, where these objects have times.
+pub(crate) fn time_of(session: &Session, inodes: &InodeFile) -> Option<Time>
+    ensures is { result ≡ kept_time (limits_of inodes.now.geometry) session.now.time }
+    ensures keeps { KeepsTime (limits_of inodes.now.geometry).has_attributes result }
+{
+    let time = session.time;
+    time.fits();
+    let session = *session;
+    session.now(&inodes.limits())
 }
 
 /// A change whose record says what it does, if there is one.

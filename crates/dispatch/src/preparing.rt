@@ -1,8 +1,6 @@
 //! Calls that change something, as they are prepared.
 
 ghost use Rattle.std.specs.Prelude.{◌≡◌, IsFalse};
-ghost use Rattle.layout.specs.StateLimits.{limits_of};
-ghost use Rattle.model.specs.States.{time_under};
 ghost use Rattle.records.specs.Opened.{HasNumbers};
 ghost use Rattle.dispatch.specs.Preparing.{PreparesCall, only_looks};
 
@@ -14,29 +12,28 @@ use crate::prepared_call::PreparedCall;
 use buffers::Blocks;
 use descriptors::Descriptors;
 use inofile::InodeFile;
-use model::{Command, Time};
+use model::{Command, Session};
 use records::Failure;
 use std::alloc::Global;
 
-/// Prepares a call at a time, on the image in memory and the table of open files, as far as nothing
+/// Prepares a call of a session, on the image in memory and the table of open files, as far as nothing
 /// of it is seen yet; or tells why it is refused. NoMemory; Device where a read failed; Damaged where
 /// a block on the way is outside its format.
 pub(crate) fn prepare_call<'a, B: Blocks>(
     alloc: Global,
     inodes: &mut InodeFile,
     blocks: &mut B,
-    now: Option<Time>,
+    session: &Session,
     files: &Descriptors,
     call: &'a Command<'_>,
 ) -> Result<PreparedCall<'a>, Failure>
     requires changes { IsFalse (only_looks call.now) }
     requires numbers { HasNumbers inodes.old.geometry.inodes files.now }
-    requires time { now ≡ time_under (limits_of inodes.old.geometry) }
-    ensures { PreparesCall B.Blocks blocks.old blocks.new inodes.old inodes.new files.now
+    ensures { PreparesCall B.Blocks blocks.old blocks.new inodes.old inodes.new session.now files.now
         call.now result }
 {
     match call {
-        Command::Path(call) => prepare_path_call(alloc, inodes, blocks, now, call),
+        Command::Path(call) => prepare_path_call(alloc, inodes, blocks, session, call),
         Command::Open {
             path,
             flags,
@@ -45,7 +42,7 @@ pub(crate) fn prepare_call<'a, B: Blocks>(
         } => {
             let path = path.as_bytes();
             prepare_opening(
-                alloc, inodes, blocks, now, files, path, *flags, *mode, *below, false,
+                alloc, inodes, blocks, session, files, path, *flags, *mode, *below, false,
             )
         }
         Command::OpenStat {
@@ -56,18 +53,18 @@ pub(crate) fn prepare_call<'a, B: Blocks>(
         } => {
             let path = path.as_bytes();
             prepare_opening(
-                alloc, inodes, blocks, now, files, path, *flags, *mode, *below, true,
+                alloc, inodes, blocks, session, files, path, *flags, *mode, *below, true,
             )
         }
         Command::Write { fd, data } => {
-            prepare_writing(alloc, inodes, blocks, now, files, *fd, data.as_bytes())
+            prepare_writing(alloc, inodes, blocks, session, files, *fd, data.as_bytes())
         }
         Command::Pwrite { fd, offset, data } => {
             prepare_writing_at(
                 alloc,
                 inodes,
                 blocks,
-                now,
+                session,
                 files,
                 *fd,
                 *offset,
@@ -75,10 +72,10 @@ pub(crate) fn prepare_call<'a, B: Blocks>(
             )
         }
         Command::Ftruncate { fd, size } => {
-            prepare_truncating(alloc, inodes, blocks, now, files, *fd, *size)
+            prepare_truncating(alloc, inodes, blocks, session, files, *fd, *size)
         }
         Command::Fchmod { fd, mode } => {
-            prepare_changing_mode(alloc, inodes, blocks, now, files, *fd, *mode)
+            prepare_changing_mode(alloc, inodes, blocks, session, files, *fd, *mode)
         }
         _ => unreachable!(),
     }

@@ -11,6 +11,7 @@ ghost use Rattle.dispatch.specs.Waiting.{WaitsBehind};
 use crate::changing::change;
 use crate::open_files::{answer_at_once, close_file, look_at_open_file};
 use crate::reading::{is_reading, read, tell_extent};
+use crate::saying::say_time;
 use crate::snapshot_reading::{list_snapshots, look_within};
 use crate::waiting::change_waiting;
 use buffers::BlockError;
@@ -117,6 +118,10 @@ fn look<S: Station>(system: &mut System<S>, call: &Command<'_>) -> Result<Reply,
         Command::Within { name, call } => look_within(system, name, call),
         Command::Extent { path, offset } => look_at_blocks(system, path, *offset),
         Command::SnapList => list_snapshots(system),
+        Command::At {
+            seconds,
+            nanoseconds,
+        } => Ok(say_time(system, *seconds, *nanoseconds)),
         Command::Lseek { .. } => Ok(answer_at_once(system, call)),
         Command::Fsync { .. } => Ok(answer_at_once(system, call)),
         Command::Close { fd } => close_file(system, *fd),

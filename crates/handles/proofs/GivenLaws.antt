@@ -1,6 +1,6 @@
 -- A number in use behind a command was in use, or it is the one that a new object gets.
 use Rattle.std.proofs.Common.{◌≡◌, ◌⊎◌, inl, inr, ℕ, List, [], ◌∷◌, map, true, false, not, is_none, Some, None, refl, sym, ap, subst, ◌∙◌}
-use Rattle.std.specs.Prelude.{IsFalse, IsTrue, MatchBool}
+use Rattle.std.specs.Prelude.{ℤ, IsFalse, IsTrue, MatchBool}
 use Rattle.std.proofs.lemmas.Bool.{false≢true}
 use Rattle.model.specs.declared.limits.TheConstants.{OPEN_FILES}
 use Rattle.model.specs.declared.errno.Errno.TheVariants.{EBUSY, EIO, EROFS, FAILED, NOSNAP}
@@ -15,7 +15,7 @@ use Rattle.model.specs.Outcomes.{Outcome, IsFresh}
 use Rattle.model.specs.Paths.{Name, Tests, first_refusal}
 use Rattle.model.specs.Room.{Room, Need}
 use Rattle.model.specs.States.{State, Mark, going, failed, now_of, with_snapshots, as_failed}
-use Rattle.model.specs.Steps.{Step, says, passing, on_tree, calls, is_reading_call, frozen, take_tests, takes, deletes, has_open_below, restores, views, WouldStep}
+use Rattle.model.specs.Steps.{Step, says, passing, on_tree, calls, is_reading_call, frozen, take_tests, takes, deletes, has_open_below, restores, views, at_tests, sets_time, WouldStep}
 use Rattle.model.specs.Trees.{Tree, IsUsed}
 use Rattle.handles.specs.Given.{may_make, has_restored, GivesFresh, FreshNumbersAreGiven}
 use Rattle.handles.proofs.CallLemmas as from
@@ -108,6 +108,11 @@ module _ (s : State) where
             subst (λ t. Keeps (command.Within name c) answer t) (sym done.1) (same_keeps (command.Within name c) answer))
       ]
 
+  keeps_time : (seconds : ℤ) (nanoseconds : ℕ) → StepKeeps (command.At seconds nanoseconds) (sets_time s seconds nanoseconds)
+  keeps_time seconds nanoseconds =
+      keeps_passing (command.At seconds nanoseconds) (at_tests s nanoseconds) _ (λ answer new need done.
+      subst (λ t. Keeps (command.At seconds nanoseconds) answer t) (sym done.1) (record { limits = refl; mark = refl; used = λ plain n used. inl used }))
+
   keeps_step : (room : Room) (asked : Command) → StepKeeps asked (WouldStep room s asked)
   keeps_step room (command.Path c) = keeps_on_tree (command.Path c) _ (gives_path c)
   keeps_step room (command.Open path flags mode below) =
@@ -125,6 +130,7 @@ module _ (s : State) where
   keeps_step room (command.Fstat fd) = keeps_on_tree (command.Fstat fd) _ (from.gives_fstat s.limits (now_of s) s.tree _ fd)
   keeps_step room (command.Fsync fd) = keeps_on_tree (command.Fsync fd) _ (from.gives_fsync s.limits (now_of s) s.tree _ fd)
   keeps_step room (command.Extent path offset) = keeps_on_tree (command.Extent path offset) _ (from.gives_extent s.limits (now_of s) s.tree _ room.stored path offset)
+  keeps_step room (command.At seconds nanoseconds) = keeps_time seconds nanoseconds
   keeps_step room command.Sync = keeps_same command.Sync reply.Done
   keeps_step room command.Df = keeps_same command.Df (reply.Space room.blocks room.free room.pledged)
   keeps_step room command.Statfs = λ answer new need done. keeps_same command.Statfs _ answer new need done.2

@@ -17,6 +17,7 @@ use Rattle.layout.proofs.OpenLaws.{newest_once, log_once}
 use Rattle.layout.proofs.RecordLaws.{change_injective}
 use Rattle.model.specs.Paths.{Name}
 use Rattle.model.specs.Records.{Replays, applied, without_orphans}
+use Rattle.model.specs.Sessions.{new_session}
 use Rattle.model.specs.States.{State, Forgets, going}
 use Rattle.model.specs.Trees.{Tree}
 use Rattle.model.specs.Volumes.{Volume, tree_of}
@@ -80,7 +81,7 @@ newest_is_root r a b (inr second) = second.0.root
 
 abbrev found : Root → Volume → List (Name × Tree) → State
 found r last snapshots =
-    record { limits = limits_of r.geometry; tree = tree_of (without_orphans last) (λ d. None); snapshots = snapshots; mark = going }
+    record { limits = limits_of r.geometry; tree = tree_of (without_orphans last) (λ d. None); snapshots = snapshots; mark = going; session = new_session }
 
 -- what images open to is one state, once open files are forgotten
 pub opens_once : (sectors : ℕ) (disk : ℕ → List ℕ) (nvram : List ℕ) (s t : State) → Opens sectors disk nvram s → Opens sectors disk nvram t → (u : State) × Forgets s u × Forgets t u

@@ -12,6 +12,7 @@ use Rattle.layout.specs.declared.pointer.Pointer.TheVariants.{Block}
 use Rattle.layout.specs.declared.root.Root.{Root}
 use Rattle.model.specs.Paths.{Name}
 use Rattle.model.specs.Records.{Replays, pledged_for, without_orphans}
+use Rattle.model.specs.Sessions.{new_session}
 use Rattle.model.specs.States.{State, Forgets, going}
 use Rattle.model.specs.Trees.{Tree}
 use Rattle.model.specs.Volumes.{Volume, IsVolume, tree_of}
@@ -60,6 +61,7 @@ state_of limits v snapshots = record {
   tree = tree_of (without_orphans v) (λ d. None);
   snapshots = snapshots;
   mark = going;
+  session = new_session;
 }
 
 -- The disk and the NVRAM stand for this state with its open files forgotten: the objects that the

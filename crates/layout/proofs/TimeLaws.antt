@@ -1,9 +1,8 @@
 -- The time of a record, by the layout of its image.
-use Rattle.std.proofs.Common.{Option, Some, None, cond, refl, arith}
-use Rattle.model.specs.Attributes.{KeepsTime, epoch}
-use Rattle.model.specs.States.{time_under}
+use Rattle.std.proofs.Common.{Option, Some, None, cond, refl}
+use Rattle.model.specs.Attributes.{IsTime, KeepsTime}
+use Rattle.model.specs.Sessions.{kept_time}
 use Rattle.model.specs.declared.time.Time.{Time}
-use Rattle.model.proofs.AttributeLaws.{new_are}
 use Rattle.layout.specs.Limits.{Sizes}
 use Rattle.layout.specs.Record.{FitsTime}
 use Rattle.layout.specs.StateLimits.{limits_of}
@@ -18,11 +17,11 @@ time_kept Plain (Some time) fits = absurd fits
 time_kept Summed None fits = tt
 time_kept Summed (Some time) fits = (refl, fits)
 
--- what a call says where no call says a time: the Epoch, where objects have times
-pub epoch_fits : (layout : Layout) → FitsTime (has_attributes layout) (cond (has_attributes layout) (Some epoch) None)
-epoch_fits Plain = tt
-epoch_fits Summed = (new_are 0 (omega arith)).modified
+-- a time that a record has where objects have times
+pub time_fits : (layout : Layout) (time : Time) → IsTime time → FitsTime (has_attributes layout) (cond (has_attributes layout) (Some time) None)
+time_fits Plain time is = tt
+time_fits Summed time is = is
 
 -- the same by the limits of an image
-pub now_fits : (s : Sizes) → FitsTime (has_attributes s.layout) (time_under (limits_of s))
-now_fits s = epoch_fits s.layout
+pub now_fits : (s : Sizes) (time : Time) → IsTime time → FitsTime (has_attributes s.layout) (kept_time (limits_of s) time)
+now_fits s = time_fits s.layout

@@ -8,7 +8,8 @@ use Rattle.model.specs.Limits.{AreLimits}
 use Rattle.model.specs.Paths.{Name, Path, IsName, path_eq}
 use Rattle.model.specs.Trees.{Tree, Object, directory, symlink, file, number_of_object, IsTree, root_alone}
 use Rattle.model.specs.States.{Mark, IsState, IsFrozen, IsShortName}
-use Rattle.model.proofs.AttributeLaws.{new_fit}
+use Rattle.model.specs.Sessions.{IsSession, new_session}
+use Rattle.model.proofs.AttributeLaws.{epoch_is, new_fit}
 use Rattle.model.proofs.WalkLemmas.{same_path}
 use Rattle.model.proofs.OptionLaws.{none_some, some_same}
 use Rattle.model.proofs.ObjectLaws.{directory_file}
@@ -68,12 +69,16 @@ root_is_tree limits can_be = record {
   offsets = λ d f is. none_some is;
 }
 
+pub new_is_session : IsSession new_session
+new_is_session = record { time = epoch_is }
+
 -- a tree without snapshots beside it
-pub tree_is_state : (limits : Limits) (t : Tree) (mark : Mark) → IsTree limits t → IsState (record { limits = limits; tree = t; snapshots = []; mark = mark })
+pub tree_is_state : (limits : Limits) (t : Tree) (mark : Mark) → IsTree limits t → IsState (record { limits = limits; tree = t; snapshots = []; mark = mark; session = new_session })
 tree_is_state limits t mark tree = record {
   tree = tree;
   frozen = All-nil (λ pair. IsFrozen limits pair.1);
   names = All-nil (λ pair. IsShortName pair.0);
   few = omega arith;
   once = λ i j x less below. absurd (omega arith);
+  session = new_is_session;
 }

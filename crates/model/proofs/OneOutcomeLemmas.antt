@@ -1,6 +1,6 @@
 -- A command has at most one outcome.
 use Rattle.std.proofs.Common.{◌≡◌, ℕ, [], ◌∷◌, ◌++◌, true, false, Option, Some, None, bytes_eq, sym, ap, subst, ◌∙◌}
-use Rattle.std.specs.Prelude.{not, is_none, filter}
+use Rattle.std.specs.Prelude.{ℤ, not, is_none, filter}
 use Rattle.model.specs.declared.limits.TheConstants.{OPEN_FILES}
 use Rattle.model.specs.declared.errno.Errno.TheVariants.{EBUSY, EROFS, NOSNAP}
 use Rattle.model.specs.declared.reply.Reply.{Reply}
@@ -14,7 +14,7 @@ use Rattle.model.specs.Outcomes.{Outcome}
 use Rattle.model.specs.Reading as reading
 use Rattle.model.specs.Descriptors as descriptors
 use Rattle.model.specs.States.{State, now_of, with_tree, with_snapshots, ForgetsOpenFiles}
-use Rattle.model.specs.Steps.{Step, says, passing, on_tree, calls, is_reading_call, frozen, take_tests, takes, deletes, has_open_below, restores, tells_usage, usage_of, views}
+use Rattle.model.specs.Steps.{Step, says, passing, on_tree, calls, is_reading_call, frozen, take_tests, takes, deletes, has_open_below, restores, tells_usage, usage_of, views, at_tests, sets_time}
 use Rattle.model.specs.Laws.{HasOneOutcome}
 use Rattle.model.proofs.CountLemmas.{counts_once, number_apart}
 use Rattle.model.proofs.OnceLemmas.{Once, forgets_once, once_path, once_open, once_close, once_read, once_write, once_pread, once_pwrite, once_seek, once_ftruncate, once_fchmod, once_fstat, once_fsync, once_extent}
@@ -80,6 +80,10 @@ once_views s name c =
           (same.reply, one.1 ∙ sym other.1, same.need))
     ]
 
+once_time : (s : State) (seconds : ℤ) (nanoseconds : ℕ) → OnceStep (sets_time s seconds nanoseconds)
+once_time s seconds nanoseconds =
+    once_passing s (at_tests s nanoseconds) _ (λ a b t u m n one other. (one.0 ∙ sym other.0, one.1 ∙ sym other.1, one.2 ∙ sym other.2))
+
 once_usage : (room : Room) (s : State) → OnceStep (tells_usage room s)
 once_usage room s a b t u m n (taken, counts, done) (others, another, again) =
     once_says s (reply.Usage (usage_of room s taken)) a b t u m n done
@@ -102,6 +106,7 @@ has_one_outcome room s (command.Fchmod fd mode) = once_on_tree s (descriptors.ch
 has_one_outcome room s (command.Fstat fd) = once_on_tree s (descriptors.stats_open s.tree fd) (once_fstat s.tree fd)
 has_one_outcome room s (command.Fsync fd) = once_on_tree s (descriptors.syncs_open s.tree fd) (once_fsync s.tree fd)
 has_one_outcome room s (command.Extent path offset) = once_on_tree s (reading.tells_extent s.limits s.tree room.stored path offset) (once_extent s.limits s.tree room.stored path offset)
+has_one_outcome room s (command.At seconds nanoseconds) = once_time s seconds nanoseconds
 has_one_outcome room s command.Sync = once_says s _
 has_one_outcome room s command.Df = once_says s _
 has_one_outcome room s command.Statfs = once_usage room s

@@ -26,7 +26,7 @@ use Rattle.model.specs.Reading as reading
 use Rattle.model.specs.Changing as changing
 use Rattle.model.specs.Descriptors as descriptors
 use Rattle.model.specs.States.{State, now_of, with_tree}
-use Rattle.model.specs.Steps.{Step, says, passing, on_tree, calls, is_reading_call, frozen, take_tests, has_open_below, views, WouldStep}
+use Rattle.model.specs.Steps.{Step, says, passing, on_tree, calls, is_reading_call, frozen, take_tests, has_open_below, views, at_tests, WouldStep}
 use Rattle.model.specs.Laws.{is_own, RefusesByItsOwn, RefusalsChangeNothing}
 use Rattle.model.proofs.OwnLemmas.{Own, refused_same, own_refuses, IsGood, good_own, own_answers, own_changes, own_swept, TestsOwn, RefusesOwn, first_own, own_tested, own_test, own_two, own_three, own_either, own_along, own_to, own_names, own_place, own_fresh, own_links, never, own_described, by_kind, tests_append, text_own, plain_own, new_own}
 
@@ -282,6 +282,7 @@ own_step room s (command.Fchmod fd mode) = own_on_tree s (descriptors.changes_op
 own_step room s (command.Fstat fd) = own_on_tree s (descriptors.stats_open s.tree fd) (own_fstat s.tree fd)
 own_step room s (command.Fsync fd) = own_on_tree s (descriptors.syncs_open s.tree fd) (own_fsync s.tree fd)
 own_step room s (command.Extent path offset) = own_on_tree s (reading.tells_extent s.limits s.tree room.stored path offset) (own_extent s.limits s.tree room.stored path offset)
+own_step room s (command.At seconds nanoseconds) = own_passing s (at_tests s nanoseconds) _ (refl, (refl, tt)) (λ answer new need done errno is. good_own reply.Done tt errno (sym done.0 ∙ is))
 own_step room s command.Sync = own_says s _ tt
 own_step room s command.Df = own_says s _ tt
 own_step room s command.Statfs = λ answer new need done errno is. own_says s _ tt answer new need done.2 errno is

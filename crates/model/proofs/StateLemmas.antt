@@ -1,6 +1,7 @@
 -- Each outcome of a command on a state is a state.
 use Rattle.std.proofs.Common.{◌≡◌, ◌≢◌, ◌⊎◌, inl, inr, ℕ, zero, suc, ◌≤◌, ◌<◌, List, [], ◌∷◌, ◌++◌, length, get_or, map, Bool, true, false, not, ◌||◌, is_none, bytes_eq, Option, Some, None, refl, sym, subst, ◌∙◌, length-append, arith}
-use Rattle.std.specs.Prelude.{◌==◌, nat_lt, find, filter, All, MatchBool, IsFalse}
+use Rattle.std.specs.Int.{w64}
+use Rattle.std.specs.Prelude.{ℤ, FitsSigned, ◌==◌, nat_lt, find, filter, All, MatchBool, IsFalse}
 use Rattle.std.proofs.lemmas.Bool.{cases_Bool, cond_both, cond-true, cond-false, eqb-false, leb-false, ltb-false, or_parts, false≢true}
 use Rattle.std.proofs.lemmas.List.Elements.{All-head, All-tail, All-push, All-filter}
 use Rattle.std.proofs.lemmas.List.Kept.{AllPairs-filter}
@@ -8,7 +9,7 @@ use Rattle.std.proofs.lemmas.List.Quantifiers.{all_pairs_push}
 use Rattle.std.proofs.lemmas.Slice.Eq.{bytes_eq-Decides}
 use Rattle.std.specs.List.{list_any}
 use Rattle.model.specs.declared.limits.Limits.{Limits}
-use Rattle.model.specs.declared.limits.TheConstants.{OPEN_FILES, SNAPSHOT_NAME_BYTES}
+use Rattle.model.specs.declared.limits.TheConstants.{MOST_NANOSECONDS, OPEN_FILES, SNAPSHOT_NAME_BYTES}
 use Rattle.model.specs.declared.errno.Errno.TheVariants.{EBUSY, NOSNAP, EROFS, EIO, FAILED}
 use Rattle.model.specs.declared.reply.Reply.{Reply}
 use Rattle.model.specs.declared.reply.Reply.TheVariants as reply
@@ -23,11 +24,11 @@ use Rattle.model.specs.Outcomes.{Outcome}
 use Rattle.model.specs.declared.time.Time.{Time}
 use Rattle.model.specs.Attributes.{KeepsTime}
 use Rattle.model.specs.States.{State, now_of, going, failed, IsState, IsFrozen, IsShortName, with_tree, with_snapshots, as_failed, ForgetsOpenFiles}
-use Rattle.model.specs.Steps.{Step, says, passing, on_tree, calls, is_reading_call, frozen, is_name_byte, take_tests, takes, deletes, has_open_below, restores, views, WouldStep}
+use Rattle.model.specs.Steps.{Step, says, passing, on_tree, calls, is_reading_call, frozen, is_name_byte, take_tests, takes, deletes, has_open_below, restores, views, at_tests, sets_time, WouldStep}
 use Rattle.model.specs.Circumstances.{Circumstances, IsDone, IsSure, IsExcused, CoversWhereOk, IsAnswered, Allowed}
 use Rattle.model.specs.Laws.{IsCommand, IsPathCall, CommandsLeaveStates, AllowedAreStates, MountsFindStates}
 use Rattle.model.proofs.LeadLemmas.{AllPass, all_passed}
-use Rattle.model.proofs.NewTreeLemmas.{root_is_tree, tree_is_state}
+use Rattle.model.proofs.NewTreeLemmas.{new_is_session, root_is_tree, tree_is_state}
 use Rattle.model.proofs.LooseLemmas.{swept_is_tree, closed_is_loose}
 use Rattle.model.proofs.TreeMarkLemmas.{time_kept}
 use Rattle.model.proofs.StayLemmas.{LeavesTree, stays_stat, stays_list, stays_entries, stays_store, stays_readlink, stays_get, stays_truncate, stays_chmod, stays_set, stays_close, stays_read, stays_pread, stays_write, stays_pwrite, stays_seek, stays_ftruncate, stays_fchmod, stays_fstat, stays_fsync, stays_extent}
@@ -74,7 +75,7 @@ LeavesState step = (answer : Reply) (new : State) (need : Need) → step answer 
 
 module _ (s : State) (state : IsState s) where
   tree_changes : (t : Tree) → IsTree s.limits t → IsState (with_tree t s)
-  tree_changes t tree = record { tree = tree; frozen = state.frozen; names = state.names; few = state.few; once = state.once }
+  tree_changes t tree = record { tree = tree; frozen = state.frozen; names = state.names; few = state.few; once = state.once; session = state.session }
 
   leaves_on_tree : (outcome : Outcome) → LeavesTree s.limits outcome → LeavesState (on_tree s outcome)
   leaves_on_tree outcome leaves answer new need done = subst IsState (sym done.1) (tree_changes new.tree (leaves answer new.tree need done.0))
@@ -121,6 +122,7 @@ module _ (s : State) (state : IsState s) where
         names = All-push (λ (pair : Name × Tree). IsShortName pair.0) s.snapshots (name, t) state.names (record { some = omega (arith, some); short = short });
         few = omega (arith, length-append s.snapshots ((name, t) ∷ []), room);
         once = all_pairs_push (λ (a b : Name × Tree). a.0 ≢ b.0) s.snapshots (name, t) state.once (no_other name s.snapshots unknown);
+        session = state.session;
       }
 
   fewer : (keeps : Name × Tree → Bool) (pairs : List (Name × Tree)) → length (filter keeps pairs) ≤ length pairs
@@ -140,6 +142,7 @@ module _ (s : State) (state : IsState s) where
         names = All-filter keeps (λ pair. IsShortName pair.0) s.snapshots state.names;
         few = let less = fewer keeps s.snapshots in omega (arith, less, state.few);
         once = AllPairs-filter (λ a b. a.0 ≢ b.0) keeps s.snapshots state.once;
+        session = state.session;
       }
 
   found_holds : (P : Name × Tree → Type 0) (test : Name × Tree → Bool) (pairs : List (Name × Tree)) → All P pairs → (pair : Name × Tree) → find test pairs ≡ Some pair → P pair
@@ -164,21 +167,36 @@ module _ (s : State) (state : IsState s) where
         | Some pair ↦ leaves_passing ((not (is_reading_call c), EROFS) ∷ []) _ (λ pass answer new need done. subst IsState (sym done.1) state)
       ]
 
+  timed : KeepsTime s.limits.has_attributes (now_of s)
+  timed = time_kept s.limits s.session.time state.session.time
+
+  leaves_time : (seconds : ℤ) (nanoseconds : ℕ) → FitsSigned w64 seconds → LeavesState (sets_time s seconds nanoseconds)
+  leaves_time seconds nanoseconds bound =
+      leaves_passing (at_tests s nanoseconds) _ (λ pass answer new need done. subst IsState (sym done.1) (record {
+        tree = state.tree;
+        frozen = state.frozen;
+        names = state.names;
+        few = state.few;
+        once = state.once;
+        session = record { time = record { seconds = bound; nanoseconds = ltb-false MOST_NANOSECONDS nanoseconds pass.1.0 } };
+      }))
+
   leaves_step : (room : Room) (c : Command) → IsCommand c → LeavesState (WouldStep room s c)
-  leaves_step room (command.Path c) bound = leaves_on_tree _ (stays_path s.limits s.tree state.tree (now_of s) (time_kept s.limits) c bound)
-  leaves_step room (command.Open path flags mode below) bound = leaves_on_tree _ (stays_open s.limits s.tree state.tree (now_of s) (time_kept s.limits) false below path flags mode bound)
-  leaves_step room (command.OpenStat path flags mode below) bound = leaves_on_tree _ (stays_open s.limits s.tree state.tree (now_of s) (time_kept s.limits) true below path flags mode bound)
+  leaves_step room (command.Path c) bound = leaves_on_tree _ (stays_path s.limits s.tree state.tree (now_of s) timed c bound)
+  leaves_step room (command.Open path flags mode below) bound = leaves_on_tree _ (stays_open s.limits s.tree state.tree (now_of s) timed false below path flags mode bound)
+  leaves_step room (command.OpenStat path flags mode below) bound = leaves_on_tree _ (stays_open s.limits s.tree state.tree (now_of s) timed true below path flags mode bound)
   leaves_step room (command.Close fd) bound = leaves_on_tree _ (stays_close s.limits s.tree state.tree fd)
   leaves_step room (command.Read fd count) bound = leaves_on_tree _ (stays_read s.limits s.tree state.tree fd count)
-  leaves_step room (command.Write fd given) bound = leaves_on_tree _ (stays_write s.limits s.tree state.tree (now_of s) (time_kept s.limits) fd given)
+  leaves_step room (command.Write fd given) bound = leaves_on_tree _ (stays_write s.limits s.tree state.tree (now_of s) timed fd given)
   leaves_step room (command.Pread fd offset count) bound = leaves_on_tree _ (stays_pread s.limits s.tree state.tree fd offset count)
-  leaves_step room (command.Pwrite fd offset given) bound = leaves_on_tree _ (stays_pwrite s.limits s.tree state.tree (now_of s) (time_kept s.limits) fd offset given)
+  leaves_step room (command.Pwrite fd offset given) bound = leaves_on_tree _ (stays_pwrite s.limits s.tree state.tree (now_of s) timed fd offset given)
   leaves_step room (command.Lseek fd from offset) bound = leaves_on_tree _ (stays_seek s.limits s.tree state.tree fd from offset)
-  leaves_step room (command.Ftruncate fd size) bound = leaves_on_tree _ (stays_ftruncate s.limits s.tree state.tree (now_of s) (time_kept s.limits) fd size)
-  leaves_step room (command.Fchmod fd mode) bound = leaves_on_tree _ (stays_fchmod s.limits s.tree state.tree (now_of s) (time_kept s.limits) fd mode bound)
+  leaves_step room (command.Ftruncate fd size) bound = leaves_on_tree _ (stays_ftruncate s.limits s.tree state.tree (now_of s) timed fd size)
+  leaves_step room (command.Fchmod fd mode) bound = leaves_on_tree _ (stays_fchmod s.limits s.tree state.tree (now_of s) timed fd mode bound)
   leaves_step room (command.Fstat fd) bound = leaves_on_tree _ (stays_fstat s.limits s.tree state.tree fd)
   leaves_step room (command.Fsync fd) bound = leaves_on_tree _ (stays_fsync s.limits s.tree state.tree fd)
   leaves_step room (command.Extent path offset) bound = leaves_on_tree _ (stays_extent s.limits s.tree state.tree room.stored path offset)
+  leaves_step room (command.At seconds nanoseconds) bound = leaves_time seconds nanoseconds bound
   leaves_step room command.Sync bound = leaves_same reply.Done
   leaves_step room command.Df bound = leaves_same (reply.Space room.blocks room.free room.pledged)
   leaves_step room command.Statfs bound = λ answer new need done. leaves_same _ answer new need done.2
@@ -189,7 +207,7 @@ module _ (s : State) (state : IsState s) where
   leaves_step room (command.Within name c) bound = leaves_view name c
 
   failed_is_state : IsState (as_failed s)
-  failed_is_state = record { tree = state.tree; frozen = state.frozen; names = state.names; few = state.few; once = state.once }
+  failed_is_state = record { tree = state.tree; frozen = state.frozen; names = state.names; few = state.few; once = state.once; session = state.session }
 
 pub commands_leave_states : CommandsLeaveStates
 commands_leave_states room s new c answer need state bound done = leaves_step s state room c bound answer new need done
@@ -227,5 +245,6 @@ mounts_find_states = (
     names = state.names;
     few = state.few;
     once = state.once;
+    session = new_is_session;
   }),
 )

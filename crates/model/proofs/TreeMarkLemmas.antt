@@ -8,17 +8,17 @@ use Rattle.model.specs.declared.attributes.Attributes.{Attributes}
 use Rattle.model.specs.declared.attributes.Touch.{Touch}
 use Rattle.model.specs.declared.attributes.Touch.TheVariants.{Data, Status}
 use Rattle.model.specs.declared.time.Time.{Time}
-use Rattle.model.specs.Attributes.{FitAttributes, IsTime, KeepsTime, epoch}
+use Rattle.model.specs.Attributes.{FitAttributes, IsTime, KeepsTime}
 use Rattle.model.specs.Touches.{Touches, touched_at}
 use Rattle.model.specs.Trees.{Tree, IsTree}
 use Rattle.model.specs.Edits.{touching, marked}
-use Rattle.model.specs.States.{time_under}
-use Rattle.model.proofs.AttributeLaws.{epoch_is, touched_fit}
+use Rattle.model.specs.Sessions.{kept_time}
+use Rattle.model.proofs.AttributeLaws.{touched_fit}
 use Rattle.model.proofs.LooseLemmas.{IsLooseTree}
 
 -- the time of a call is one that a change may have
-pub time_kept : (limits : Limits) → KeepsTime limits.has_attributes (time_under limits)
-time_kept limits = cond_both limits.has_attributes (Some epoch) None (KeepsTime limits.has_attributes) (λ e. (e, epoch_is)) (λ e. tt)
+pub time_kept : (limits : Limits) (time : Time) → IsTime time → KeepsTime limits.has_attributes (kept_time limits time)
+time_kept limits time is = cond_both limits.has_attributes (Some time) None (KeepsTime limits.has_attributes) (λ e. (e, is)) (λ e. tt)
 
 -- what each touch keeps, all of a change keep
 pub marks_hold : (P : Tree → Type 0) (now : Option Time) (touches : Touches) (t : Tree)

@@ -1,6 +1,7 @@
 -- Laws of the definitions, which the functions of `laws.rt` name.
 use Rattle.std.specs.List.{list_any}
-use Rattle.std.specs.Prelude.{ℕ, ◌≡◌, ◌↔◌, ◌≤◌, ◌<◌, Bool, true, false, IsTrue, IsFalse, IsSome, IfSome, All, Contains, List, [], ◌∷◌, ◌++◌, length, slice_get, Option, Some, None}
+use Rattle.std.specs.Int.{w64}
+use Rattle.std.specs.Prelude.{ℕ, FitsSigned, ◌≡◌, ◌↔◌, ◌≤◌, ◌<◌, Bool, true, false, IsTrue, IsFalse, IsSome, IfSome, All, Contains, List, [], ◌∷◌, ◌++◌, length, slice_get, Option, Some, None}
 use Rattle.model.specs.Entries.{Part, AreTold}
 use Rattle.model.specs.declared.attributes.Attributes.{Attributes}
 use Rattle.model.specs.declared.limits.TheConstants.{LINKS_FOLLOWED, FIRST_NUMBER, MODE_BITS}
@@ -73,13 +74,14 @@ IsPathCall (call.Chmod path mode) = mode ≤ MODE_BITS
 IsPathCall (call.Set path settings) = IfSome settings.mode (λ mode. mode ≤ MODE_BITS)
 IsPathCall c = Unit {0}
 
--- what the types of a command hold it to: a mode has twelve bits
+-- what the types of a command hold it to: a mode has twelve bits, and seconds have 64
 abbrev pub IsCommand : Command → Type 0
 IsCommand (command.Path c) = IsPathCall c
 IsCommand (command.Within name c) = IsPathCall c
 IsCommand (command.Open path flags mode below) = mode ≤ MODE_BITS
 IsCommand (command.OpenStat path flags mode below) = mode ≤ MODE_BITS
 IsCommand (command.Fchmod fd mode) = mode ≤ MODE_BITS
+IsCommand (command.At seconds nanoseconds) = FitsSigned w64 seconds
 IsCommand c = Unit {0}
 
 -- where a directory is told in parts from the first one on, until a part tells nothing, a name that

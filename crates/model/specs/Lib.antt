@@ -1,4 +1,5 @@
 pub mod Attributes
+pub mod Sessions
 pub mod Touches
 pub mod Errnos
 pub mod Counting

@@ -1,8 +1,8 @@
 -- Which reply and which new state each command gives, where nothing comes in its way.
-use Rattle.std.specs.Prelude.{ℕ, zero, suc, ◌≡◌, nat_le, nat_lt, not, ◌&&◌, ◌||◌, ◌==◌, ◌-◌, length, Bool, true, false, List, [], ◌∷◌, ◌++◌, map, find, filter, bytes_eq, Option, Some, None, is_none}
+use Rattle.std.specs.Prelude.{ℕ, ℤ, zero, suc, ◌≡◌, nat_le, nat_lt, not, ◌&&◌, ◌||◌, ◌==◌, ◌-◌, length, Bool, true, false, List, [], ◌∷◌, ◌++◌, map, find, filter, bytes_eq, Option, Some, None, is_none}
 use Rattle.std.specs.List.{list_any}
-use Rattle.model.specs.declared.limits.TheConstants.{OPEN_FILES, ROOT_NUMBER, SNAPSHOT_NAME_BYTES}
-use Rattle.model.specs.declared.errno.Errno.TheVariants.{EBUSY, EROFS, BADNAME, SNAPEXISTS, NOSNAP, SNAPFULL}
+use Rattle.model.specs.declared.limits.TheConstants.{MOST_NANOSECONDS, OPEN_FILES, ROOT_NUMBER, SNAPSHOT_NAME_BYTES}
+use Rattle.model.specs.declared.errno.Errno.TheVariants.{EBUSY, EINVAL, EROFS, BADNAME, SNAPEXISTS, NOSNAP, SNAPFULL, ENOTSUP}
 use Rattle.model.specs.declared.reply.Reply.{Reply}
 use Rattle.model.specs.declared.reply.Reply.TheVariants.{Done, Snaps, Space, Usage as tells, Refused}
 use Rattle.model.specs.declared.reply.Usage.{Usage}
@@ -15,7 +15,8 @@ use Rattle.model.specs.Paths.{Name, Tests, first_refusal}
 use Rattle.model.specs.Counting.{Counts}
 use Rattle.model.specs.Trees.{Tree, IsUsed}
 use Rattle.model.specs.declared.time.Time.{Time}
-use Rattle.model.specs.States.{State, now_of, with_tree, with_snapshots, ForgetsOpenFiles}
+use Rattle.model.specs.Sessions.{at_time}
+use Rattle.model.specs.States.{State, now_of, with_tree, with_snapshots, with_session, ForgetsOpenFiles}
 use Rattle.model.specs.Room.{Need, nothing, a_snapshot, a_restore, Room, reserved_of}
 use Rattle.model.specs.Outcomes.{Outcome}
 use Rattle.model.specs.Reading.{lists, tells_entries, stats, reads_link, tells_extent, gets}
@@ -116,6 +117,15 @@ views s name c = elim (frozen s name) [
       (λ reply new need. calls s.limits (now_of s) pair.1 c reply pair.1 need × (new ≡ s))
 ]
 
+-- the tests of `at`: the file system keeps times, and so many nanoseconds are below a second
+abbrev pub at_tests : State → ℕ → Tests
+at_tests s nanoseconds = (not s.limits.has_attributes, ENOTSUP) ∷ (nat_lt MOST_NANOSECONDS nanoseconds, EINVAL) ∷ []
+
+-- `at`: the session's calls come at this time from here on
+abbrev pub sets_time : State → ℤ → ℕ → Step
+sets_time s seconds nanoseconds = passing s (at_tests s nanoseconds) (λ reply new need.
+    (reply ≡ Done) × (new ≡ with_session (at_time (record { seconds = seconds; nanoseconds = nanoseconds }) s.session) s) × (need ≡ nothing))
+
 -- what `statfs` tells where so many numbers are used
 abbrev pub usage_of : Room → State → ℕ → Usage
 usage_of room s taken = record {
@@ -148,6 +158,7 @@ WouldStep room s (command.Fchmod fd mode) = on_tree s (changes_open_mode (now_of
 WouldStep room s (command.Fstat fd) = on_tree s (stats_open s.tree fd)
 WouldStep room s (command.Fsync fd) = on_tree s (syncs_open s.tree fd)
 WouldStep room s (command.Extent path offset) = on_tree s (tells_extent s.limits s.tree room.stored path offset)
+WouldStep room s (command.At seconds nanoseconds) = sets_time s seconds nanoseconds
 WouldStep room s command.Sync = says s Done
 WouldStep room s command.Df = says s (Space room.blocks room.free room.pledged)
 WouldStep room s command.Statfs = tells_usage room s

@@ -160,6 +160,9 @@ pub fn commands_are_bounded(command: &Command)
         | Command::Fchmod { mode, .. } => {
             let _ = mode.bits();
         }
+        Command::At { seconds, .. } => {
+            let _seconds = *seconds;
+        }
         _ => {}
     }
 }

@@ -12,6 +12,7 @@ mod laws;
 mod limits;
 mod mode;
 mod reply;
+mod session;
 mod text;
 mod time;
 
@@ -38,5 +39,6 @@ pub use limits::{
 };
 pub use mode::Mode;
 pub use reply::{Extent, FileType, Reply, Stat, Usage};
+pub use session::Session;
 pub use text::{Bytes, Names, Text};
 pub use time::{Nanoseconds, Time};

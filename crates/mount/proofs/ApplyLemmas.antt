@@ -8,6 +8,7 @@ use Rattle.station.specs.Images.{Images}
 use Rattle.station.specs.Moments.{Meaning, EachCut, IsSameStation, LeavesOnly, MayGrow}
 use Rattle.station.proofs.Moments.{grown_later, weaker}
 use Rattle.station.specs.declared.station.Station.{Ghosts}
+use Rattle.model.specs.declared.session.Session.{Session}
 use Rattle.model.specs.declared.limits.Limits.{Limits}
 use Rattle.model.specs.Paths.{Name}
 use Rattle.model.specs.Trees.{Tree}
@@ -59,9 +60,9 @@ still_answered c s command reply t =
 
 -- ---- what a command may give, by the mark of the state before it
 
-module _ (command : Command) (limits : Limits) (tree : Tree) (snapshots : List (Name × Tree)) where
+module _ (command : Command) (limits : Limits) (tree : Tree) (snapshots : List (Name × Tree)) (said : Session) where
   abbrev marked : Mark → State
-  marked mark = record { limits = limits; tree = tree; snapshots = snapshots; mark = mark }
+  marked mark = record { limits = limits; tree = tree; snapshots = snapshots; mark = mark; session = said }
 
   refused_failed : (c : Circumstances) (mark : Mark) → mark ≡ failed → Allowed c (marked mark) command (Refused FAILED) (marked mark)
   refused_failed c failed is = (refl, refl)
@@ -81,17 +82,17 @@ module _ (command : Command) (limits : Limits) (tree : Tree) (snapshots : List (
   surely_going c failed reply t is sure no_write done = cc
 
 pub allowed_surely : (s : State) (command : Command) (c : Circumstances) (reply : Reply) (t : State) → s.mark ≡ going → IsSure s command → IsFalse c.write_failed → IsDone c s command reply t → Allowed c s command reply t
-allowed_surely s command c reply t is = surely_going command s.limits s.tree s.snapshots c s.mark reply t is
+allowed_surely s command c reply t is = surely_going command s.limits s.tree s.snapshots s.session c s.mark reply t is
 
 pub allowed_by : (s : State) (command : Command) (c : Circumstances) (reply : Reply) (t : State) → s.mark ≡ going → ¬ IsSure s command → IsAnswered c s command reply t → Allowed c s command reply t
-allowed_by s command c reply t is = answered_going command s.limits s.tree s.snapshots c s.mark reply t is
+allowed_by s command c reply t is = answered_going command s.limits s.tree s.snapshots s.session c s.mark reply t is
 
 -- so it stands behind reads of which some may have failed
 pub after_reads : (a b n : ℕ) (s : State) (command : Command) (c : Circumstances) (reply : Reply) (t : State) → MayGrow a b → MayGrow b n → TellsOfFault c.read_failed b n → Allowed c s command reply t
     → (read : Bool) × TellsOfFault read a n × Allowed (record c { read_failed = read }) s command reply t
 after_reads a b n s command c reply t (inl same) later told allowed = (c.read_failed, subst (λ (k : ℕ). TellsOfFault c.read_failed k n) same told, allowed)
 after_reads a b n s command c reply t (inr grown) later told allowed =
-    (true, grown_later a b n grown later, unread_going command s.limits s.tree s.snapshots c s.mark reply t allowed)
+    (true, grown_later a b n grown later, unread_going command s.limits s.tree s.snapshots s.session c s.mark reply t allowed)
 
 -- the state at the answer
 module _ (s : State) (command : Command) (new t : State) where
@@ -209,7 +210,7 @@ module _ {S : Type 0} {G : Ghosts S} where
         leads = record {
           circumstances = quiet;
           between = record { goes_on = on_none m; reads = refl; writes = refl; room = λ still. not_both s.mark still is };
-          allowed = refused_failed command s.limits s.tree s.snapshots quiet s.mark is;
+          allowed = refused_failed command s.limits s.tree s.snapshots s.session quiet s.mark is;
         };
         any_moment = (leaves_failed m.left_at opens s m.moment m.moment (MayStand s command s) is).1 still;
         at_answer = (leaves_failed m.left_at opens s m.moment m.moment (MayRemain s command s) is).1 still;

@@ -20,6 +20,7 @@ no_checkpoint (command.Fchmod fd mode) is checkpointing = checkpointing
 no_checkpoint (command.Fstat fd) is checkpointing = checkpointing
 no_checkpoint (command.Fsync fd) is checkpointing = checkpointing
 no_checkpoint (command.Extent path offset) is checkpointing = checkpointing
+no_checkpoint (command.At seconds nanoseconds) is checkpointing = checkpointing
 no_checkpoint command.Sync is checkpointing = is
 no_checkpoint command.Df is checkpointing = checkpointing
 no_checkpoint command.Statfs is checkpointing = checkpointing

@@ -2,6 +2,7 @@
 use Rattle.std.proofs.Common.{◌≡◌, ◌⊎◌, inl, inr, ℕ, ◌≤◌, List, [], ◌∷◌, ◌++◌, refl, sym, ap, subst, arith}
 use Rattle.std.specs.Prelude.{◌↔◌}
 use Rattle.std.proofs.lemmas.Bool.{cases_lt}
+use Rattle.model.specs.declared.session.Session.{Session}
 use Rattle.model.specs.declared.limits.Limits.{Limits}
 use Rattle.model.specs.declared.command.Command.{Command}
 use Rattle.model.specs.declared.reply.Reply.{Reply}
@@ -16,10 +17,10 @@ cases_mark going = inl refl
 cases_mark failed = inr refl
 
 -- a failed system stays as it is
-failed_stays : (c : Circumstances) (limits : Limits) (tree : Tree) (snapshots : List (Name × Tree)) (mark : Mark) (command : Command) (reply : Reply) (t : State) → mark ≡ failed
-    → Allowed c (record { limits = limits; tree = tree; snapshots = snapshots; mark = mark }) command reply t → t.mark ≡ failed
-failed_stays c limits tree snapshots failed command reply t is allowed = ap (λ (u : State). u.mark) allowed.1
-failed_stays c limits tree snapshots going command reply t is allowed = cc
+failed_stays : (c : Circumstances) (limits : Limits) (tree : Tree) (snapshots : List (Name × Tree)) (said : Session) (mark : Mark) (command : Command) (reply : Reply) (t : State) → mark ≡ failed
+    → Allowed c (record { limits = limits; tree = tree; snapshots = snapshots; mark = mark; session = said }) command reply t → t.mark ≡ failed
+failed_stays c limits tree snapshots said failed command reply t is allowed = ap (λ (u : State). u.mark) allowed.1
+failed_stays c limits tree snapshots said going command reply t is allowed = cc
 
 -- what may stand while a command is under way, by the marks before it and after it
 module _ (s : State) (command : Command) (new t : State) where
@@ -68,7 +69,7 @@ module _ {Images : Type 0} (left_at : ℕ → Images → Type 0) (Opens : Images
 module _ {System : Type 0} (state_of : System → State) (Between : System → Command → System → Circumstances → Type 0) where
   pub stays_failed : (f next : System) (step : Command × Reply) → Leads state_of Between f step next → (state_of f).mark ≡ failed → (state_of next).mark ≡ failed
   stays_failed f next step leads is =
-      let s = state_of f in failed_stays leads.circumstances s.limits s.tree s.snapshots s.mark step.0 step.1 (state_of next) is leads.allowed
+      let s = state_of f in failed_stays leads.circumstances s.limits s.tree s.snapshots s.session s.mark step.0 step.1 (state_of next) is leads.allowed
 
   -- a prefix of the rest, behind one command
   prefix_behind : (f next : System) (step : Command × Reply) (steps : List (Command × Reply)) (t : State) → Leads state_of Between f step next

@@ -46,7 +46,7 @@ impl<S: Station> Fs<S> {
     /// call failed, and where a write or a sync failed nothing else comes; after that, and only
     /// then as long as the generations last, every command answers FAILED, with no device call.
     /// ENOMEM comes where there was no memory, ENOSPC where the disk has no room although its
-    /// newest root covers all, and then nothing changed. `lseek`, `fsync`, `df`, `statfs`, and
+    /// newest root covers all, and then nothing changed. `lseek`, `fsync`, `at`, `df`, `statfs`, and
     /// `close` but of a file that has no name call no device and tell no want of memory, whatever
     /// the images hold.
     pub fn apply(&mut self, command: &Command<'_>) -> Reply

@@ -16,6 +16,7 @@ mod path_calls;
 mod prefix;
 mod refusals;
 mod replies;
+mod saying;
 mod waiting;
 mod whole_image;
 mod within_snapshots;

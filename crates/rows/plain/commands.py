@@ -41,7 +41,9 @@ ODD_STARTS = ['@', '@03', '@-1', '@3x', '@4294967296', '@4294967295', '@0', '@1'
 ODD_ENDS = ['/..', '/../a', '/a/..', '/.', '/./a', '//a', '/', '/%00', '/' + 'n' * 256, '/' + 'l' * 255, '/@3', '/@4/a']
 ENTRIES = [1, 1, 2, 3, 5, 1024]
 ODD_ENTRIES = [0, 1025, 4294967295]
-# None of the weights above names `fchmod`: it would change the lists that stand.
+SECONDS = [0, 5, -1, 2 ** 31, 2 ** 63 - 1, -2 ** 63]
+NANOSECONDS = [0, 7, 999999999, 1000000000, 2 ** 32 - 1]
+# None of the weights above names `at` or `fchmod`: they would change the lists that stand.
 ON_DESCRIPTORS = ['close', 'read', 'write', 'pread', 'pwrite', 'lseek', 'ftruncate', 'fchmod',
                   'fstat', 'fsync']
 
@@ -321,6 +323,8 @@ def command(numbers, system):
     name = numbers.choices(list(numbers.weights), list(numbers.weights.values()))[0]
     if name in ('sync', 'df', 'statfs'):
         return name
+    if name == 'at':
+        return 'at %d %d' % (numbers.choice(SECONDS), numbers.choice(NANOSECONDS))
     if name not in ON_DESCRIPTORS:
         return on_path(numbers, system, name)
     if any(system.descriptors) or numbers.random() < 0.1:

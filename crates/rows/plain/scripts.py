@@ -3,7 +3,7 @@
 import calls
 import descriptors
 import snapshots
-from model import ROOT, Refusal
+from model import ROOT, Refusal, refuse
 
 
 def sync(system, _words):
@@ -19,6 +19,11 @@ def free_blocks(system, _words):
 def usage(system, _words):
     numbers = (system.block_count, system.free, system.reserved(), system.inode_count - ROOT, len(system.volume))
     return b'usage blocks %d free %d reserved %d inodes %d taken %d' % numbers
+
+
+def at(_system, _words):
+    """The time of the calls to come. No image that is known here keeps times, whatever the numbers are."""
+    return refuse('ENOTSUP')
 
 
 COMMANDS = {
@@ -43,6 +48,7 @@ COMMANDS = {
     b'sync': sync,
     b'df': free_blocks,
     b'statfs': usage,
+    b'at': at,
     b'open': descriptors.open_file,
     b'openstat': descriptors.open_file,
     b'close': descriptors.close,

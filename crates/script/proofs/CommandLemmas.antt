@@ -80,6 +80,7 @@ no_command verb.Fchmod e vs = absurd (cc)
 no_command verb.Fstat e vs = absurd (cc)
 no_command verb.Fsync e vs = absurd (cc)
 no_command verb.Extent e vs = absurd (cc)
+no_command verb.At e vs = absurd (cc)
 no_command verb.Sync e vs = absurd (cc)
 no_command verb.Df e vs = absurd (cc)
 no_command verb.Statfs e vs = absurd (cc)
@@ -167,17 +168,18 @@ not_file verb.Ftruncate a b c d e f g vs = f refl
 not_file verb.Fchmod a b c d e f g vs = g refl
 not_file v a b c d e f g vs = vs
 
-pub is_file : (v : Verb) → v ≢ verb.Open → v ≢ verb.OpenStat → v ≢ verb.Close → v ≢ verb.Fstat → v ≢ verb.Fsync → v ≢ verb.Extent → v ≢ verb.Sync → v ≢ verb.Df → v ≢ verb.Statfs → command_form v ≡ file_form v
-is_file verb.Open a b c d e f g h i = absurd (a refl)
-is_file verb.OpenStat a b c d e f g h i = absurd (b refl)
-is_file verb.Close a b c d e f g h i = absurd (c refl)
-is_file verb.Fstat a b c d e f g h i = absurd (d refl)
-is_file verb.Fsync a b c d e f g h i = absurd (e refl)
-is_file verb.Extent a b c d e f g h i = absurd (f refl)
-is_file verb.Sync a b c d e f g h i = absurd (g refl)
-is_file verb.Df a b c d e f g h i = absurd (h refl)
-is_file verb.Statfs a b c d e f g h i = absurd (i refl)
-is_file v a b c d e f g h i = refl
+pub is_file : (v : Verb) → v ≢ verb.Open → v ≢ verb.OpenStat → v ≢ verb.Close → v ≢ verb.Fstat → v ≢ verb.Fsync → v ≢ verb.Extent → v ≢ verb.At → v ≢ verb.Sync → v ≢ verb.Df → v ≢ verb.Statfs → command_form v ≡ file_form v
+is_file verb.Open a b c d e f g h i j = absurd (a refl)
+is_file verb.OpenStat a b c d e f g h i j = absurd (b refl)
+is_file verb.Close a b c d e f g h i j = absurd (c refl)
+is_file verb.Fstat a b c d e f g h i j = absurd (d refl)
+is_file verb.Fsync a b c d e f g h i j = absurd (e refl)
+is_file verb.Extent a b c d e f g h i j = absurd (f refl)
+is_file verb.At a b c d e f g h i j = absurd (g refl)
+is_file verb.Sync a b c d e f g h i j = absurd (h refl)
+is_file verb.Df a b c d e f g h i j = absurd (i refl)
+is_file verb.Statfs a b c d e f g h i j = absurd (j refl)
+is_file v a b c d e f g h i j = refl
 
 pub not_snapping : (v : Verb) → v ≢ verb.Take → v ≢ verb.Delete → v ≢ verb.Restore → v ≢ verb.List → Values (snap_form v) → ⊥
 not_snapping verb.Take a b c d vs = a refl
@@ -191,9 +193,9 @@ pub change_read : (v : Verb) (words : List (List ℕ)) (r : Result PathCall Scri
     → ReadsFields (change_form v) call_words IsPathCallInForm (verb_name v ∷ []) words r → ReadsFields (call_form v) call_words IsPathCallInForm (verb_name v ∷ []) words r
 change_read v words r a b c d e f reads = subst (λ u. ReadsFields u call_words IsPathCallInForm (verb_name v ∷ []) words r) (sym (is_change v a b c d e f)) reads
 
-pub file_read : (v : Verb) (words : List (List ℕ)) (r : Result Command ScriptError) → v ≢ verb.Open → v ≢ verb.OpenStat → v ≢ verb.Close → v ≢ verb.Fstat → v ≢ verb.Fsync → v ≢ verb.Extent → v ≢ verb.Sync → v ≢ verb.Df → v ≢ verb.Statfs
+pub file_read : (v : Verb) (words : List (List ℕ)) (r : Result Command ScriptError) → v ≢ verb.Open → v ≢ verb.OpenStat → v ≢ verb.Close → v ≢ verb.Fstat → v ≢ verb.Fsync → v ≢ verb.Extent → v ≢ verb.At → v ≢ verb.Sync → v ≢ verb.Df → v ≢ verb.Statfs
     → ReadsFields (file_form v) command_words IsCommandInForm (verb_name v ∷ []) words r → ReadsFields (command_form v) command_words IsCommandInForm (verb_name v ∷ []) words r
-file_read v words r a b c d e f g h i reads = subst (λ u. ReadsFields u command_words IsCommandInForm (verb_name v ∷ []) words r) (sym (is_file v a b c d e f g h i)) reads
+file_read v words r a b c d e f g h i j reads = subst (λ u. ReadsFields u command_words IsCommandInForm (verb_name v ∷ []) words r) (sym (is_file v a b c d e f g h i j)) reads
 
 -- what is read behind a verb is read as words
 pub call_read : (v : Verb) (words : List (List ℕ)) (r : Result PathCall ScriptError) → ReadsFields (call_form v) call_words IsPathCallInForm (verb_name v ∷ []) words r → ReadsWords call_words IsPathCallInForm (verb_name v ∷ words) r

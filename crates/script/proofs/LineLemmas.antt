@@ -182,6 +182,7 @@ verb_is_word verb.Fchmod = letters_are_word (codes "fchmod") refl
 verb_is_word verb.Fstat = letters_are_word (codes "fstat") refl
 verb_is_word verb.Fsync = letters_are_word (codes "fsync") refl
 verb_is_word verb.Extent = letters_are_word (codes "extent") refl
+verb_is_word verb.At = letters_are_word (codes "at") refl
 verb_is_word verb.Sync = letters_are_word (codes "sync") refl
 verb_is_word verb.Df = letters_are_word (codes "df") refl
 verb_is_word verb.Statfs = letters_are_word (codes "statfs") refl

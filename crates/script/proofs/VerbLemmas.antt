@@ -6,7 +6,7 @@ use Rattle.script.specs.declared.verb.Verb.{Verb}
 use Rattle.script.specs.declared.verb.Verb.TheVariants as verb
 
 abbrev pub all_verbs : List Verb
-all_verbs = verb.List ∷ verb.Entries ∷ verb.Stat ∷ verb.Lstat ∷ verb.Readlink ∷ verb.Get ∷ verb.Mkdir ∷ verb.Rmdir ∷ verb.Unlink ∷ verb.Link ∷ verb.Symlink ∷ verb.Rename ∷ verb.RenameNew ∷ verb.Chmod ∷ verb.Truncate ∷ verb.Store ∷ verb.Set ∷ verb.Open ∷ verb.OpenStat ∷ verb.Close ∷ verb.Read ∷ verb.Write ∷ verb.Pread ∷ verb.Pwrite ∷ verb.Lseek ∷ verb.Ftruncate ∷ verb.Fchmod ∷ verb.Fstat ∷ verb.Fsync ∷ verb.Extent ∷ verb.Sync ∷ verb.Df ∷ verb.Statfs ∷ verb.Snap ∷ verb.Take ∷ verb.Delete ∷ verb.Restore ∷ verb.In ∷ []
+all_verbs = verb.List ∷ verb.Entries ∷ verb.Stat ∷ verb.Lstat ∷ verb.Readlink ∷ verb.Get ∷ verb.Mkdir ∷ verb.Rmdir ∷ verb.Unlink ∷ verb.Link ∷ verb.Symlink ∷ verb.Rename ∷ verb.RenameNew ∷ verb.Chmod ∷ verb.Truncate ∷ verb.Store ∷ verb.Set ∷ verb.Open ∷ verb.OpenStat ∷ verb.Close ∷ verb.Read ∷ verb.Write ∷ verb.Pread ∷ verb.Pwrite ∷ verb.Lseek ∷ verb.Ftruncate ∷ verb.Fchmod ∷ verb.Fstat ∷ verb.Fsync ∷ verb.Extent ∷ verb.At ∷ verb.Sync ∷ verb.Df ∷ verb.Statfs ∷ verb.Snap ∷ verb.Take ∷ verb.Delete ∷ verb.Restore ∷ verb.In ∷ []
 
 -- a word that names none of all verbs names no verb
 pub none_named : (word : List ℕ) → All (λ v. word ≡ verb_name v → ⊥) all_verbs → (v : Verb) → word ≡ verb_name v → ⊥
@@ -40,14 +40,15 @@ none_named word none verb.Fchmod = none 26 verb.Fchmod (lit< tt)
 none_named word none verb.Fstat = none 27 verb.Fstat (lit< tt)
 none_named word none verb.Fsync = none 28 verb.Fsync (lit< tt)
 none_named word none verb.Extent = none 29 verb.Extent (lit< tt)
-none_named word none verb.Sync = none 30 verb.Sync (lit< tt)
-none_named word none verb.Df = none 31 verb.Df (lit< tt)
-none_named word none verb.Statfs = none 32 verb.Statfs (lit< tt)
-none_named word none verb.Snap = none 33 verb.Snap (lit< tt)
-none_named word none verb.Take = none 34 verb.Take (lit< tt)
-none_named word none verb.Delete = none 35 verb.Delete (lit< tt)
-none_named word none verb.Restore = none 36 verb.Restore (lit< tt)
-none_named word none verb.In = none 37 verb.In (lit< tt)
+none_named word none verb.At = none 30 verb.At (lit< tt)
+none_named word none verb.Sync = none 31 verb.Sync (lit< tt)
+none_named word none verb.Df = none 32 verb.Df (lit< tt)
+none_named word none verb.Statfs = none 33 verb.Statfs (lit< tt)
+none_named word none verb.Snap = none 34 verb.Snap (lit< tt)
+none_named word none verb.Take = none 35 verb.Take (lit< tt)
+none_named word none verb.Delete = none 36 verb.Delete (lit< tt)
+none_named word none verb.Restore = none 37 verb.Restore (lit< tt)
+none_named word none verb.In = none 38 verb.In (lit< tt)
 
 pub no_verb : (r : Option Verb) (word : List ℕ) → IfNone r (All (λ v. word ≡ verb_name v → ⊥) all_verbs) → IfNone r ((v : Verb) → word ≡ verb_name v → ⊥)
 no_verb None word none = none_named word none
@@ -88,6 +89,7 @@ named verb.Fchmod = refl
 named verb.Fstat = refl
 named verb.Fsync = refl
 named verb.Extent = refl
+named verb.At = refl
 named verb.Sync = refl
 named verb.Df = refl
 named verb.Statfs = refl

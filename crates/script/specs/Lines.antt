@@ -71,6 +71,7 @@ spelling_of (command.Fchmod fd mode) = plain verb.Fchmod (fd, (mode, tt))
 spelling_of (command.Fstat fd) = plain verb.Fstat (fd, tt)
 spelling_of (command.Fsync fd) = plain verb.Fsync (fd, tt)
 spelling_of (command.Extent path offset) = plain verb.Extent (path, (offset, tt))
+spelling_of (command.At seconds nanoseconds) = plain verb.At (seconds, (nanoseconds, tt))
 spelling_of command.Sync = plain verb.Sync tt
 spelling_of command.Df = plain verb.Df tt
 spelling_of command.Statfs = plain verb.Statfs tt

@@ -151,6 +151,13 @@ fn read_plain(alloc: Global, verb: Verb, words: &[&[u8]]) -> Result<Command<'sta
             let Then(path, Then(offset, End)) = Fields::read(alloc, words)?;
             Ok(Command::Extent { path, offset })
         }
+        Verb::At => {
+            let Then(seconds, Then(nanoseconds, End)) = Fields::read(alloc, words)?;
+            Ok(Command::At {
+                seconds,
+                nanoseconds,
+            })
+        }
         Verb::Sync => read_alone(Command::Sync, words),
         Verb::Df => read_alone(Command::Df, words),
         Verb::Statfs => read_alone(Command::Statfs, words),

@@ -36,6 +36,7 @@ pub(crate) enum Verb {
     Fstat,
     Fsync,
     Extent,
+    At,
     Sync,
     Df,
     Statfs,
@@ -47,7 +48,7 @@ pub(crate) enum Verb {
 }
 
 impl Verb {
-    const ALL: [Verb; 38] = [
+    const ALL: [Verb; 39] = [
         Verb::List,
         Verb::Entries,
         Verb::Stat,
@@ -78,6 +79,7 @@ impl Verb {
         Verb::Fstat,
         Verb::Fsync,
         Verb::Extent,
+        Verb::At,
         Verb::Sync,
         Verb::Df,
         Verb::Statfs,
@@ -168,6 +170,7 @@ impl Verb {
             Verb::Fstat => b"fstat",
             Verb::Fsync => b"fsync",
             Verb::Extent => b"extent",
+            Verb::At => b"at",
             Verb::Sync => b"sync",
             Verb::Df => b"df",
             Verb::Statfs => b"statfs",

@@ -76,6 +76,13 @@ pub(crate) fn push_command(
         Command::Extent { path, offset } => {
             push_fields(alloc, line, Verb::Extent, &Then(path, Then(*offset, End)))
         }
+        Command::At {
+            seconds,
+            nanoseconds,
+        } => {
+            let fields = Then(*seconds, Then(*nanoseconds, End));
+            push_fields(alloc, line, Verb::At, &fields)
+        }
         Command::Sync => push_fields(alloc, line, Verb::Sync, &End),
         Command::Df => push_fields(alloc, line, Verb::Df, &End),
         Command::Statfs => push_fields(alloc, line, Verb::Statfs, &End),

@@ -53,6 +53,7 @@ changes (command.Fchmod fd mode) = true
 changes (command.Fstat fd) = false
 changes (command.Fsync fd) = false
 changes (command.Extent path offset) = false
+changes (command.At seconds nanoseconds) = false
 changes command.Sync = false
 changes command.Df = false
 changes command.Statfs = false

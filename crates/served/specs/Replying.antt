@@ -38,6 +38,7 @@ linux_number errno.ENAMETOOLONG = 36
 linux_number errno.ENOTEMPTY = 39
 linux_number errno.ELOOP = 40
 linux_number errno.EOVERFLOW = 75
+linux_number errno.ENOTSUP = 95
 linux_number errno.ESTALE = 116
 linux_number errno.DAMAGED = 117
 

@@ -39,6 +39,7 @@ pub(crate) fn linux_number(errno: Errno) -> u32
         Errno::ENOTEMPTY => 39,
         Errno::ELOOP => 40,
         Errno::EOVERFLOW => 75,
+        Errno::ENOTSUP => 95,
         Errno::ESTALE => 116,
         Errno::DAMAGED => 117,
     }

@@ -124,6 +124,7 @@ begins {m} {k} {table} {s} serves =
       batch = refl;
       then_inodes = k.inodes;
       then_files = k.files;
+      then_session = k.session;
       then_table = table;
       served = serves;
       shown = shown.0;
@@ -181,6 +182,7 @@ module _ {m : Meaning} {k : Parts} {waits : Waits} {table : ℕ → Option Descr
     batch = ahead.batch;
     then_inodes = ahead.then_inodes;
     then_files = ahead.then_files;
+    then_session = ahead.then_session;
     then_table = ahead.then_table;
     served = read_into ahead.served new now_kept now_pending ahead.then_inodes k.map reads shows (λ v over. over) refl (λ n k least. least) (λ b. refl) (λ coming b. refl);
     shown = read_into ahead.shown (uncut new) now_kept now_pending now_inodes k.map (uncut_reads reads) (λ disk before. shows_uncut (shows disk (uncut_shows before))) stays sizes needs (λ b. refl) (λ coming b. refl);
@@ -196,7 +198,7 @@ module _ {m : Meaning} {k : Parts} {waits : Waits} {table : ℕ → Option Descr
     volume = swept table (applied change ahead.shown.running)
 
     abbrev state : State
-    state = state_with (limits_of k.root.geometry) volume table ahead.shown.snapshots
+    state = state_with (limits_of k.root.geometry) k.session volume table ahead.shown.snapshots
 
     -- memory goes on, and what a cut leaves stays
     pub one_waits : (n : ℕ) → n ≡ cost (limits_of k.root.geometry).costs (work_of ahead.shown.running change) → Reserved laws records ahead.shown change advances
@@ -220,6 +222,7 @@ module _ {m : Meaning} {k : Parts} {waits : Waits} {table : ℕ → Option Descr
             batch = subst (λ (bodies : List (List ℕ)). IsBatchOf bodies more.batch) (sym (map-append change_bytes ahead.waiting (change ∷ []))) batch;
             then_inodes = ahead.then_inodes;
             then_files = ahead.then_files;
+            then_session = ahead.then_session;
             then_table = ahead.then_table;
             served = ahead.served;
             shown = shown.0;

@@ -10,6 +10,7 @@ use Rattle.station.specs.declared.station.Station.{Ghosts}
 use Rattle.station.proofs.Moments.{each_unchanged, goes_on, same_none, started, weaker}
 use Rattle.layout.specs.Limits.{Sizes}
 use Rattle.layout.specs.Places.{blocks_of}
+use Rattle.model.specs.declared.session.Session.{Session}
 use Rattle.model.specs.States.{State}
 use Rattle.model.specs.Trees.{Description}
 use Rattle.buffers.specs.Disks.{ReadsOn}
@@ -177,8 +178,8 @@ module _ (laws : CutLaws) (ways : WayLaws) {m : Meaning} {k : Parts} {table : �
 -- where the log was in the first epoch over the root, the system serves what it did, with that point under way
 abbrev pub pending_serves : {S : Type 0} {G : Ghosts S} (old new : System S G) (table : ℕ → Option Description) (s : State) (serves : HasState old table s) → old.blocks.pending ≡ None
     → old.log.epoch ≡ old.root.generation + 1 → ReadsOn (meaning_of old) (meaning_of new) → new.log ≡ record old.log { epoch = old.log.epoch + 1; end = Unopened }
-    → new.pledged ≡ old.pledged → new.files ≡ old.files → IsPending unchanged old new old.inodes table s serves serves.first serves.running → HasState new table s
-pending_serves old new table s serves none first reads log pledged files pending =
+    → new.pledged ≡ old.pledged → new.files ≡ old.files → new.session ≡ old.session → IsPending unchanged old new old.inodes table s serves serves.first serves.running → HasState new table s
+pending_serves old new table s serves none first reads log pledged files said pending =
     let m = meaning_of old in
     let now = meaning_of new in
     let went = reads.goes serves.honest in
@@ -222,5 +223,6 @@ pending_serves old new table s serves none first reads log pledged files pending
       stored = pending.stored;
       opened = serves.opened ∙ ap table_of (sym files);
       fits = subst (λ (d : Descriptors). FitsVolume d serves.running) (sym files) serves.fits;
-      state = serves.state ∙ ap (λ (g : Sizes). state_with (limits_of g) serves.running table serves.snapshots) (sym pending.planned.point.geometry);
+      state = serves.state ∙ ap (λ (g : Sizes). state_with (limits_of g) old.session serves.running table serves.snapshots) (sym pending.planned.point.geometry)
+          ∙ ap (λ (x : Session). state_with (limits_of new.root.geometry) x serves.running table serves.snapshots) (sym said);
     }

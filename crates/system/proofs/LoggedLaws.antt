@@ -143,7 +143,7 @@ module _ (laws : CutLaws) (records : RecordLaws) {m : Meaning} {k : Parts} {tabl
 
   -- the state that the record leads to
   abbrev pub state_after : State
-  state_after = state_with (limits_of k.root.geometry) volume_after table serves.snapshots
+  state_after = state_with (limits_of k.root.geometry) k.session volume_after table serves.snapshots
 
   -- the log before it
   pub log_stands : LogStands m k.log serves.settled.root.generation serves.lasts.bodies
@@ -182,7 +182,7 @@ module _ (laws : CutLaws) (records : RecordLaws) {m : Meaning} {k : Parts} {tabl
         → (now : Meaning) → LeavesOnly m now (KeepsDisk m (WithOrWithout k.log.half serves.settled.root.generation serves.lasts.bodies (change_bytes change)))
         → LeavesOnly m now (λ c. OpensTo m s c ⊎ OpensTo m state_after c)
     at_any_moment size half now leaves =
-        let after = sized serves {log = k.log} (record { sectors = size; half = half; volume = volume; state = refl }) in
+        let after = sized serves {log = k.log} (record { sectors = size; half = half; volume = volume; said = k.session; state = refl }) in
         weaker m now (KeepsDisk m (WithOrWithout k.log.half serves.settled.root.generation serves.lasts.bodies (change_bytes change))) (λ c. OpensTo m s c ⊎ OpensTo m state_after c) leaves (λ c keeps. elim keeps.3 [
           | inl without ↦ inl (same_open laws serves.lasts (its_sizes serves size half) c (same_disk c keeps.0 keeps.1 keeps.2) without)
           | inr with_it ↦ inr (same_open laws lasts_after after c (same_disk c keeps.0 keeps.1 keeps.2) with_it)

@@ -11,6 +11,8 @@ use Rattle.layout.specs.Log.{LogHolds}
 use Rattle.layout.specs.Places.{Blocks, blocks_of}
 use Rattle.layout.specs.Record.{Change, IsChange}
 use Rattle.layout.specs.declared.root.Root.{Root}
+use Rattle.model.specs.declared.session.Session.{Session}
+use Rattle.model.specs.Sessions.{new_session}
 use Rattle.model.specs.Paths.{Name}
 use Rattle.model.specs.Records.{Extends, Replays, is_vacant, pledged_for, without_orphans}
 use Rattle.model.specs.States.{State}
@@ -232,7 +234,7 @@ extends v = record { kept = λ n some. kept_nodes (v n) some; rest = λ n none. 
 -- ---- the system
 
 module _ (m : Meaning) (kept : BlockCache) (found : FoundImages) (p : LoadedImage) (first last : Volume) (snapshots : List (Name × Tree)) (changes : List Change)
-    (files : Descriptors) (none : (d : ℕ) → open_at files d ≡ None) (fits : (v : Volume) → FitsVolume files v) where
+    (files : Descriptors) (none : (d : ℕ) → open_at files d ≡ None) (fits : (v : Volume) → FitsVolume files v) (said : Session) (said_nothing : said ≡ new_session) where
   -- memory over what was found, where reads give these images
   pub record IsOver (i : Images) : Type 0 where
     pub just : LeavesJust m i
@@ -254,10 +256,11 @@ module _ (m : Meaning) (kept : BlockCache) (found : FoundImages) (p : LoadedImag
     pledged = p.pledged;
     pledged_then = p.pledged;
     files = files;
+    session = said;
   }
 
   abbrev shown : State
-  shown = state_with (limits_of found.newest.root.geometry) (without_orphans last) (λ d. None) snapshots
+  shown = state_with (limits_of found.newest.root.geometry) new_session (without_orphans last) (λ d. None) snapshots
 
   serving : IsMounted (without_orphans last) (λ d. None) → IsFalse p.log.is_stopped → IsOver m.seen → IsServing m (parts None) (λ d. None) shown
   serving mounted runs over = record {
@@ -298,7 +301,7 @@ module _ (m : Meaning) (kept : BlockCache) (found : FoundImages) (p : LoadedImag
     stored = over.has.stored;
     opened = λ i d. option_map description_of (sym (none d) i);
     fits = fits (without_orphans last);
-    state = refl;
+    state = ap (λ (x : Session). state_with (limits_of found.newest.root.geometry) x (without_orphans last) (λ d. None) snapshots) (sym said_nothing);
   }
 
   pub serves : (pending : Option PendingPoint) → pending ≡ None → (i : Images) → m.seen ≡ i → IsMounted (without_orphans last) (λ d. None) → IsFalse p.log.is_stopped → IsOver i

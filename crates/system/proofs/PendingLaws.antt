@@ -8,6 +8,7 @@ use Rattle.station.proofs.Moments.{leaves_unchanged}
 use Rattle.layout.specs.Limits.{Sizes}
 use Rattle.layout.specs.Places.{blocks_of}
 use Rattle.layout.specs.declared.root.Root.{Root}
+use Rattle.model.specs.declared.session.Session.{Session}
 use Rattle.model.specs.Records.{count_orphans}
 use Rattle.layout.specs.StateLimits.{fixed_of, limits_of}
 use Rattle.model.specs.States.{State, with_snapshots}
@@ -69,7 +70,7 @@ pub record Turning {S : Type 0} {G : Ghosts S} (change : SnapshotChange) (old : 
   pub is : IsStepFor change old step
   pub may : MayCheckpoint change old old.inodes table base volume
   pub room : IsRoomy → HasRoomToPlan change old (memory_room base old.inodes volume)
-  pub state : t ≡ turned (limits_of old.root.geometry) step volume table serves.first serves.snapshots
+  pub state : t ≡ turned (limits_of old.root.geometry) old.session step volume table serves.first serves.snapshots
 
 -- a point that starts from the tree that is there settles the running volume
 unfoldable pub steps_turn : {S : Type 0} {G : Ghosts S} (change : SnapshotChange) (old : System S G) → old.blocks.pending ≡ None → (table : ℕ → Option Description) (s : State) (serves : HasState old table s) (t : State)
@@ -100,7 +101,7 @@ module _ (cuts : CutLaws) (roots : RootLaws) (ways : WayLaws) {S : Type 0} {G : 
     carries : CarriesOut mid new result is.pending
     carries = subst (λ (l : Option PendingPoint). IfSome l (CarriesOut mid new result)) is.is does.carried
 
-    at_any_moment : LeavesOnly m n (λ c. OpensTo m s c ⊎ OpensTo m (turned (limits_of old.root.geometry) step v table serves.first serves.snapshots) c)
+    at_any_moment : LeavesOnly m n (λ c. OpensTo m s c ⊎ OpensTo m (turned (limits_of old.root.geometry) old.session step v table serves.first serves.snapshots) c)
     at_any_moment =
         points.at_any_moment cuts serves none old.sectors old.half p mid.root step v is.planned here (meaning_of mid) n begins.reads.goes carries.any_moment
 
@@ -158,7 +159,7 @@ module _ (cuts : CutLaws) (roots : RootLaws) (ways : WayLaws) {S : Type 0} {G : 
         (points.with_root cuts serves none old.sectors old.half plan mid.root step v is.planned here n.seen has) is.planned.room.leaves
 
     abbrev after : State
-    after = turned (limits_of old.root.geometry) step v table serves.first serves.snapshots
+    after = turned (limits_of old.root.geometry) old.session step v table serves.first serves.snapshots
 
     settled : OnceCovered n parts_then table after
     settled = (
@@ -189,7 +190,8 @@ module _ (cuts : CutLaws) (roots : RootLaws) (ways : WayLaws) {S : Type 0} {G : 
         stored = is.stored;
         opened = serves.opened ∙ ap table_of (sym begins.same.1);
         fits = subst (λ (d : Descriptors). FitsVolume d v) (sym begins.same.1) may.fits;
-        state = ap (λ (g : Sizes). state_with (limits_of g) v table (kept_after step serves.first serves.snapshots)) (sym is.planned.point.geometry);
+        state = ap (λ (g : Sizes). state_with (limits_of g) old.session v table (kept_after step serves.first serves.snapshots)) (sym is.planned.point.geometry)
+            ∙ ap (λ (x : Session). state_with (limits_of mid.root.geometry) x v table (kept_after step serves.first serves.snapshots)) (sym begins.same.2);
       },
       refl,
       refl,

@@ -125,7 +125,7 @@ module _ (laws : CutLaws) {m : Meaning} {k : Parts} {table : ℕ → Option Desc
     (serves : IsServing m k table s) (none : k.pending ≡ None) (size : m.sectors ≡ 8 * k.root.geometry.blocks) (half : k.log.half ≡ k.root.geometry.half)
     (p : Planned) (new : Root) (step : SnapshotStep) (v : Volume) (planned : IsPlannedOver step m.seen.disk k.root k.slot k.log.epoch p new v) where
   abbrev after : State
-  after = turned (limits_of k.root.geometry) step v table serves.first serves.snapshots
+  after = turned (limits_of k.root.geometry) k.session step v table serves.first serves.snapshots
 
   abbrev rest : AtRest serves
   rest = at_rest serves none

@@ -127,7 +127,7 @@ module _ {m : Meaning} {k : Parts} {s : State} (served : IsServing m k s.tree.de
 
   -- the state with its tree
   abbrev pub restored_state : State
-  restored_state = state_with (limits_of k.root.geometry) (without_orphans kept_volume) s.tree.descriptors served.snapshots
+  restored_state = state_with (limits_of k.root.geometry) k.session (without_orphans kept_volume) s.tree.descriptors served.snapshots
 
   state_is : restored_state ≡ with_tree frozen_there.tree s
   state_is =

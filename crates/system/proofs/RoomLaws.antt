@@ -3,6 +3,7 @@ use Rattle.std.proofs.Common.{◌≡◌, ◌∙◌, inl, inr, ℕ, zero, suc, �
 use Rattle.std.specs.Prelude.{IsTrue, IsFalse, if◌then◌else◌, ◌==◌}
 use Rattle.std.proofs.lemmas.Bool.{cases_lt}
 use Rattle.std.proofs.lemmas.List.{length-replicate}
+use Rattle.model.specs.declared.session.Session.{Session}
 use Rattle.model.specs.declared.limits.Limits.{Limits}
 use Rattle.layout.specs.Limits.{Sizes}
 use Rattle.layout.specs.Places.{blocks_of}
@@ -67,15 +68,15 @@ abbrev pub free_of : Base → ℕ
 free_of base = free_under (whole (blocks_of base.disk) base.root).active base.root.geometry.blocks
 
 -- what a system keeps of it, whatever objects and open files memory would serve by
-pub free_with : {S : Type 0} {G : Ghosts S} (known : InodeFile) (files : Descriptors) (f : System S G) (table : ℕ → Option Description) (s : State)
-    → (serves : IsServing (meaning_of f) (record (system_parts f) { inodes = known; files = files }) table s) → f.free ≡ free_of serves.settled
-free_with known files f table s serves =
+pub free_with : {S : Type 0} {G : Ghosts S} (known : InodeFile) (files : Descriptors) (said : Session) (f : System S G) (table : ℕ → Option Description) (s : State)
+    → (serves : IsServing (meaning_of f) (record (system_parts f) { inodes = known; files = files; session = said }) table s) → f.free ≡ free_of serves.settled
+free_with known files said f table s serves =
     f.counted ∙ ap (free_below f.map.parts.items) f.count
     ∙ free_same (whole (blocks_of serves.settled.disk) serves.settled.root).active f.map serves.entries f.root.geometry.blocks
     ∙ ap (λ (g : Sizes). free_under (whole (blocks_of serves.settled.disk) serves.settled.root).active g.blocks) (sym (sizes serves))
 
 pub free_by : {S : Type 0} {G : Ghosts S} (known : InodeFile) (f : System S G) (table : ℕ → Option Description) (s : State) → (serves : HasStateBy known f table s) → f.free ≡ free_of serves.settled
-free_by {G = G} known f table s serves = free_with {G = G} known f.files f table s serves
+free_by {G = G} known f table s serves = free_with {G = G} known f.files f.session f table s serves
 
 pub free_is : {S : Type 0} {G : Ghosts S} (f : System S G) (table : ℕ → Option Description) (s : State) → (serves : HasState f table s) → f.free ≡ free_of serves.settled
 free_is {G = G} f table s serves = free_by {G = G} f.inodes f table s serves

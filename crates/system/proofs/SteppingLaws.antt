@@ -97,7 +97,7 @@ module _ {S : Type 0} {G : Ghosts S} (laws : CutLaws) (old new : System S G) (no
 
   pub planned_step : (r : Result (Unit {0}) PointError) → Begins Unchanged old new r → (end.is_honest → MayLeave end end.seen) → Steps old new (Ok tt)
   planned_step (Ok u) begins seen =
-      begins_on begins seen (ap (λ (l : LogEnd). l.half) begins.log) (λ table s serves. pending_serves old new table s serves none first begins.reads begins.log begins.same.0 begins.same.1 (begins.pending old.inodes table s serves serves.first serves.running
+      begins_on begins seen (ap (λ (l : LogEnd). l.half) begins.log) (λ table s serves. pending_serves old new table s serves none first begins.reads begins.log begins.same.0 begins.same.1 begins.same.2 (begins.pending old.inodes table s serves serves.first serves.running
       (checkpoints_running {G = G} old serves Unchanged unchanged refl tt) unchanged (record { is = refl; can = tt }) (has_room {G = G} old serves none Unchanged tt)))
       (λ table s serves. refl)
       (next_age old.log.epoch new.log.epoch (ap (λ (l : LogEnd). l.epoch) begins.log)) (ap (λ (l : LogEnd). l.is_stopped) begins.log)

@@ -10,6 +10,7 @@ use Rattle.layout.specs.Log.{LogHolds}
 use Rattle.layout.specs.Limits.{Sizes}
 use Rattle.layout.specs.Places.{Blocks, blocks_of}
 use Rattle.layout.specs.declared.root.Root.{Root}
+use Rattle.model.specs.declared.session.Session.{Session}
 use Rattle.model.specs.Paths.{Name}
 use Rattle.model.specs.Records.{Extends, is_vacant}
 use Rattle.model.specs.States.{State, Forgets}
@@ -162,7 +163,8 @@ pub record AreOf (sizes : Sizes) (m : Meaning) (log : LogEnd) (running : Volume)
   pub sectors : m.sectors ≡ 8 * sizes.blocks
   pub half : log.half ≡ sizes.half
   pub volume : IsVolume (limits_of sizes) running
-  pub state : s ≡ state_with (limits_of sizes) running table snapshots
+  pub said : Session
+  pub state : s ≡ state_with (limits_of sizes) said running table snapshots
 
 -- what a mount finds of the state is that of a replayed volume
 pub found_of : CutLaws → {sizes : Sizes} {m : Meaning} {log : LogEnd} {running : Volume} {table : ℕ → Option Description} {snapshots : List (Name × Tree)} {s : State}
@@ -215,7 +217,7 @@ module _ {m : Meaning} {k : Parts} {table : ℕ → Option Description} {s : Sta
 
   module _ (size : m.sectors ≡ 8 * k.root.geometry.blocks) (half : k.log.half ≡ k.root.geometry.half) where
     pub root_sizes : AreOf k.root.geometry m k.log serves.running table serves.snapshots s
-    root_sizes = record { sectors = size; half = half; volume = serves.memory.volume; state = serves.state }
+    root_sizes = record { sectors = size; half = half; volume = serves.memory.volume; said = k.session; state = serves.state }
 
     pub its_sizes : AreOf serves.settled.root.geometry m k.log serves.running table serves.snapshots s
     its_sizes = sized root_sizes

@@ -4,6 +4,7 @@ use Rattle.std.specs.Prelude.{ℕ, ◌≡◌, ◌+◌, List, Option, map}
 use Rattle.station.specs.Moments.{Meaning}
 use Rattle.station.specs.declared.station.Station.{Ghosts}
 use Rattle.layout.specs.Record.{Change, change_bytes}
+use Rattle.model.specs.declared.session.Session.{Session}
 use Rattle.model.specs.States.{State}
 use Rattle.model.specs.Trees.{Description}
 use Rattle.model.specs.Volumes.{Volume}
@@ -20,7 +21,7 @@ abbrev pub uncut : Meaning → Meaning
 uncut m = record m { left_at = λ moment images. ⊥ }
 
 -- What a system has is ahead of what a cut leaves. A cut leaves a state that it served by the
--- objects and the open files that it had in memory then. But for cuts it serves another state by
+-- objects, the open files and the session that it had in memory then. But for cuts it serves another state by
 -- now: over the same base, by the records of the log and behind them those that wait, whose cost is
 -- pledged beside.
 pub record IsAhead (m : Meaning) (k : Parts) (waits : Waits) (table : ℕ → Option Description) (s kept : State) : Type 0 where
@@ -28,8 +29,13 @@ pub record IsAhead (m : Meaning) (k : Parts) (waits : Waits) (table : ℕ → Op
   pub batch : IsBatchOf (map change_bytes waiting) waits.batch
   pub then_inodes : InodeFile
   pub then_files : Descriptors
+  pub then_session : Session
   pub then_table : ℕ → Option Description
-  pub served : IsServing m (record k { inodes = then_inodes; files = then_files }) then_table kept
+  pub served : IsServing m (record k {
+    inodes = then_inodes;
+    files = then_files;
+    session = then_session;
+  }) then_table kept
   pub shown : IsServing (uncut m) (record k {
     pledged = k.pledged + waits.pledged;
     pledged_then = k.pledged_then + waits.pledged;

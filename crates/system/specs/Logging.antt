@@ -59,10 +59,10 @@ pub record Appends {S : Type 0} {G : Ghosts S} (old new : System S G) (table : �
     (change : Change) (result : Result (Unit {0}) AppendError) : Type 0 where
   pub any_moment : let after = swept table (applied change serves.running) in
       LeavesOnly (meaning_of old) (meaning_of new) (λ c. OpensTo (meaning_of old) s c
-      ⊎ OpensTo (meaning_of old) (state_with (limits_of old.root.geometry) after table serves.snapshots) c)
+      ⊎ OpensTo (meaning_of old) (state_with (limits_of old.root.geometry) old.session after table serves.snapshots) c)
   pub logged : let after = swept table (applied change serves.running) in
       OnOk result (WouldServe old new serves.first after (serves.lasts.replayed.changes ++ change ∷ []) table
-      (state_with (limits_of old.root.geometry) after table serves.snapshots))
+      (state_with (limits_of old.root.geometry) old.session after table serves.snapshots))
 
 -- put in force on a system with this running volume, a prepared change does what the record says
 abbrev pub DoesOver : {S : Type 0} {G : Ghosts S} → System S G → Volume → Prepared → Change → Type 0
@@ -79,8 +79,8 @@ pub record LogsAt {S : Type 0} {G : Ghosts S} (old new : System S G) (table : �
   pub short : IsErrOf result NoRoom → HasRoomForWork new (work_of serves.running change) → ⊥
   pub any_moment : Advances (limits_of old.root.geometry) serves.running table change
       → let after = swept table (applied change serves.running) in
-      LeavesEither (meaning_of old) (meaning_of new) s (state_with (limits_of old.root.geometry) after table serves.snapshots)
+      LeavesEither (meaning_of old) (meaning_of new) s (state_with (limits_of old.root.geometry) old.session after table serves.snapshots)
   pub done : Advances (limits_of old.root.geometry) serves.running table change → DoesOver old serves.running prepared change
       → let after = swept table (applied change serves.running) in
-      OnOk result (ServesWith new table (state_with (limits_of old.root.geometry) after table serves.snapshots) after
+      OnOk result (ServesWith new table (state_with (limits_of old.root.geometry) old.session after table serves.snapshots) after
       (serves.lasts.replayed.changes ++ change ∷ []))

@@ -1,5 +1,6 @@
 -- What is planned of a consistency point for a system.
 use Rattle.std.specs.Prelude.{ℕ, ◌≡◌, ◌⊎◌, ◌+◌, ◌*◌, ◌≤◌, ◌^◌, List, Option, Result, OnOk, IfErr, IsErrOf, MatchResult, None}
+use Rattle.model.specs.declared.session.Session.{Session}
 use Rattle.model.specs.declared.limits.Limits.{Limits}
 use Rattle.station.specs.Images.{Unchanged}
 use Rattle.station.specs.Moments.{Goes, LeavesOnly, Meaning}
@@ -91,15 +92,15 @@ StepsTo change f table s serves t =
     (step : SnapshotStep) × IsStepFor change f step × StartsActive step × (t ≡ with_snapshots (kept_after step serves.first serves.snapshots) s)
 
 -- the state of a volume after a step, over a root that holds another one and these snapshots
-abbrev pub turned : Limits → SnapshotStep → Volume → (ℕ → Option Description) → Volume → List (Name × Tree) → State
-turned limits step v table first snapshots = state_with limits v table (kept_after step first snapshots)
+abbrev pub turned : Limits → Session → SnapshotStep → Volume → (ℕ → Option Description) → Volume → List (Name × Tree) → State
+turned limits said step v table first snapshots = state_with limits said v table (kept_after step first snapshots)
 
 -- so a state may be the one that a system serves behind a point that settles this memory
 abbrev pub TurnsTo : {S : Type 0} {G : Ghosts S} → SnapshotChange → InodeFile → (base v : Volume) → (f : System S G) → (table : ℕ → Option Description) (s : State)
     → HasState f table s → State → Type 0
 TurnsTo change memory base v f table s serves t =
     (step : SnapshotStep) × IsStepFor change f step × MayCheckpoint change f memory table base v
-    × (t ≡ turned (limits_of f.root.geometry) step v table serves.first serves.snapshots)
+    × (t ≡ turned (limits_of f.root.geometry) f.session step v table serves.first serves.snapshots)
 
 -- it is the same
 abbrev pub StaysAt : {S : Type 0} {G : Ghosts S} → (f : System S G) → (table : ℕ → Option Description) (s : State)

@@ -77,7 +77,7 @@ pub record Begins {S : Type 0} {G : Ghosts S} (change : SnapshotChange) (old new
       → IfErr result (λ e. HasStateBy known new table s)
   pub memory : OnErr result (new.inodes ≡ old.inodes)
   pub log : MatchResult result (λ _. new.log ≡ record old.log { epoch = old.log.epoch + 1; end = Unopened }) (λ _. new.log ≡ old.log)
-  pub same : OnOk result ((new.pledged ≡ old.pledged) × (new.files ≡ old.files))
+  pub same : OnOk result ((new.pledged ≡ old.pledged) × (new.files ≡ old.files) × (new.session ≡ old.session))
   pub generation : OnOk result (new.root.generation ≡ old.log.epoch)
   pub unchanged : OnOk result ((n : ℕ) → IsChanged new.inodes n → ⊥)
   pub unwritten : OnOk result (IfSome new.blocks.pending (λ l. l.plan.written ≡ 0))

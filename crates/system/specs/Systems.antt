@@ -1,5 +1,6 @@
 -- What a mounted system stands for.
 use Rattle.std.specs.Prelude.{ℕ, ◌≡◌, ◌⊎◌, ◌≤◌, ◌++◌, List, Option, Some, None, IsFalse}
+use Rattle.model.specs.declared.session.Session.{Session}
 use Rattle.model.specs.declared.limits.Limits.{Limits}
 use Rattle.layout.specs.StateLimits.{limits_of}
 use Rattle.station.specs.Moments.{EachCut, Meaning}
@@ -40,9 +41,9 @@ meaning_of {S} {G} f = G.meaning f.blocks.buffers.station
 
 -- the state that a system with this running volume shows, with these limits, snapshots and open
 -- files
-abbrev pub state_with : Limits → Volume → (ℕ → Option Description) → List (Name × Tree) → State
-state_with limits running table snapshots =
-    record { limits = limits; tree = tree_of running table; snapshots = snapshots; mark = going }
+abbrev pub state_with : Limits → Session → Volume → (ℕ → Option Description) → List (Name × Tree) → State
+state_with limits said running table snapshots =
+    record { limits = limits; tree = tree_of running table; snapshots = snapshots; mark = going; session = said }
 
 -- the blocks of a station, as the layers below have them
 abbrev pub blocks_with : {S : Type 0} (G : Ghosts S) → blocks.Ghosts (Overlay S G)
@@ -57,7 +58,7 @@ blocks_with G = record {
 -- What a system has beside its station: blocks that it keeps clean in memory, the consistency point
 -- that is under way, the root that memory stands on with the slot of that, objects and the block
 -- map in memory, the view of a snapshot, the log's end, what is pledged and what of it stays so
--- behind the point, and the open files.
+-- behind the point, the open files, and what the session says.
 pub record Parts : Type 0 where
   pub kept : BlockCache
   pub pending : Option PendingPoint
@@ -70,6 +71,7 @@ pub record Parts : Type 0 where
   pub pledged : ℕ
   pub pledged_then : ℕ
   pub files : Descriptors
+  pub session : Session
 
 -- those of a system
 abbrev pub system_parts : {S : Type 0} {G : Ghosts S} → System S G → Parts
@@ -85,6 +87,7 @@ system_parts f = record {
   pledged = f.pledged;
   pledged_then = f.pledged_then;
   files = f.files;
+  session = f.session;
 }
 
 -- the disk that memory stands on, where a station reads this one
@@ -143,7 +146,7 @@ pub record IsServing (m : Meaning) (k : Parts) (table : ℕ → Option Descripti
   pub stored : memory_room first k.inodes running ≤ k.pledged_then
   pub opened : table ≡ table_of k.files
   pub fits : FitsVolume k.files running
-  pub state : s ≡ state_with (limits_of k.root.geometry) running table snapshots
+  pub state : s ≡ state_with (limits_of k.root.geometry) k.session running table snapshots
 
 -- a system serves a state
 abbrev pub HasState : {S : Type 0} {G : Ghosts S} → System S G → (ℕ → Option Description) → State

@@ -40,4 +40,4 @@ pub record WaitsAt {S : Type 0} {G : Ghosts S} (old new : System S G) (before af
   pub short : IsErrOf result NoRoom → HasRoomForWorkBehind old before (work_of ahead.shown.running change) → ⊥
   pub done : Advances (limits_of old.root.geometry) ahead.shown.running table change → DoesOver old ahead.shown.running prepared change
       → let next = swept table (applied change ahead.shown.running) in
-      OnOk result (HasStateAheadBy new after table (state_with (limits_of old.root.geometry) next table ahead.shown.snapshots) kept next)
+      OnOk result (HasStateAheadBy new after table (state_with (limits_of old.root.geometry) old.session next table ahead.shown.snapshots) kept next)

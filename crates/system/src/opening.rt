@@ -2,6 +2,7 @@
 
 ghost use Rattle.std.specs.Prelude.{◌≡◌, ◌⊎◌, List, ℕ, IfErr, IfOk, IsErrOf, IsFalse, MatchResult, None, OnOk};
 ghost use Rattle.layout.specs.StateLimits.{limits_of};
+ghost use Rattle.model.specs.Sessions.{new_session};
 ghost use Rattle.station.specs.Images.{Unchanged};
 ghost use Rattle.station.specs.Moments.{Goes, HasGrown, IsSameStation, LeavesJust};
 ghost use Rattle.layout.specs.Log.{LogHolds};
@@ -34,7 +35,7 @@ use images::faultless_trees_hold_graphs;
 use inofile::InodeFile;
 use layout::Root;
 use loading::{Loaded, Newest, check_snapshots, load, newest_root, volumes_are_readable};
-use model::{mounts_find_volumes, replays_keep_volumes};
+use model::{Session, mounts_find_volumes, replays_keep_volumes};
 use oplog::{Log, SavedLog};
 use overlay::Overlay;
 use replay::{Replayed, replay};
@@ -146,7 +147,7 @@ fn open_found<S: Station>(
         → HoldsRecords (blocks_of (S.meaning station).seen.disk) found.newest.root
         (S.meaning station).seen.nvram first last snapshots changes
         → MatchResult result (λ f. HasState f (λ d. None)
-        (state_with (limits_of found.newest.root.geometry) (without_orphans last) (λ d. None)
+        (state_with (limits_of found.newest.root.geometry) new_session (without_orphans last) (λ d. None)
         snapshots))
         (λ e. SaysNothing e.0) }
     ensures faultless { (S.meaning station).is_honest → IsOf (S.meaning station).seen found
@@ -183,6 +184,7 @@ fn open_found<S: Station>(
                 pledged_then: pledged,
                 free,
                 files: Descriptors::new(alloc),
+                session: Session::new(),
             })
         }
         Err(error) => Err((error, blocks.buffers.into_station())),

@@ -2,9 +2,7 @@
 
 ghost use Rattle.std.specs.Prelude.{◌≡◌, ◌+◌, ◌*◌, ◌≤◌, ◌^◌};
 ghost use Rattle.layout.specs.Root.{IsRoot};
-ghost use Rattle.layout.specs.StateLimits.{limits_of};
 ghost use Rattle.blockmap.specs.Maps.{free_below};
-ghost use Rattle.model.specs.States.{time_under};
 ghost use Rattle.oplog.specs.LogEnd.{next_of};
 ghost use Rattle.records.specs.Opened.{HasNumbers};
 ghost use Rattle.replay.specs.declared.costs.TheConstants.{MOST_COST};
@@ -15,7 +13,7 @@ use blockmap::BlockMap;
 use descriptors::Descriptors;
 use inofile::InodeFile;
 use layout::Root;
-use model::Time;
+use model::Session;
 use oplog::Log;
 use overlay::Overlay;
 use station::Station;
@@ -44,6 +42,8 @@ pub struct System<S: Station> {
     pub(crate) free: u32,
     /// The files that are open.
     pub files: Descriptors,
+    /// What the session says of its calls.
+    pub session: Session,
     ghost sectors: { (S.meaning blocks.buffers.station).sectors ≡ 8 * root.geometry.blocks },
     ghost nvram: { (S.meaning blocks.buffers.station).nvram_bytes ≡ 2 * log.half },
     ghost half: { log.half ≡ root.geometry.half },
@@ -61,18 +61,6 @@ impl<S: Station> System<S> {
         ensures { result.now ≡ self.now.blocks.buffers.station }
     {
         &self.blocks.buffers.station
-    }
-
-    /// The time of a call, where objects have times: always the Epoch, as no call says another one
-    /// yet.
-    pub fn now(&self) -> Option<Time>
-        ensures { result ≡ time_under (limits_of self.now.root.geometry) }
-    {
-        if self.root.geometry.limits().has_attributes {
-            Some(Time::epoch())
-        } else {
-            None
-        }
     }
 
     /// The station as it stands, with no device call.

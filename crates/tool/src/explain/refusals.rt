@@ -8,7 +8,7 @@ use std::io::Write;
 const OWN_INODES: u32 = 4;
 
 /// What the refusals mean, by their names.
-const MEANINGS: [(&str, &str); 27] = [
+const MEANINGS: [(&str, &str); 28] = [
     (
         "ENOENT",
         "nothing is at this path, or a directory on the way isn't there",
@@ -80,6 +80,7 @@ const MEANINGS: [(&str, &str); 27] = [
         "ESTALE",
         "nothing that has a path has the number that this one begins at",
     ),
+    ("ENOTSUP", "the image has no owners and no times"),
     (
         "ENOSPC",
         "too few blocks are free: see df, unlink files or delete snapshots",

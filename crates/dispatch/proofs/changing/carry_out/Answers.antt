@@ -26,7 +26,7 @@ returns-in-None-clause-told g c = λ call s served prepared.
     let p = c.args.prepared in
     let put = c.put_into-in-None.ensures in
     done_serving {G = g.S.Station} f _ call refl (views_same {G = g.S.Station} f refl) p.reply reads_nothing s served (c.served_states_open.ensures s.tree.descriptors s served)
-    (unchanged_leads {G = g.S.Station} f _ (served_shows served) call p c.in-None.is prepared refl (record { table = put.table; fits = put.fits; mounted = put.mounted }))
+    (unchanged_leads {G = g.S.Station} f _ (served_shows served) call p c.in-None.is prepared refl refl (record { table = put.table; fits = put.fits; mounted = put.mounted }))
 
 pub returns-in-Ok-clause-frame : goal.returns-in-Ok-clause-frame
 returns-in-Ok-clause-frame g c = λ call kind accepted.
@@ -48,7 +48,7 @@ returns-in-Ok-clause-told g c = λ call s served prepared.
       fits = c.put_into.ensures.fits;
       mounted = c.put_into.ensures.mounted;
     } in
-    let behind = logged_moves {G = g.S.Station} c.log.new.self c.put_into.new.files p.table table (limits_of f.root.geometry) after served.snapshots (served.lasts.replayed.changes ++ change ∷ [])
+    let behind = logged_moves {G = g.S.Station} c.log.new.self c.put_into.new.files p.table table (limits_of f.root.geometry) f.session after served.snapshots (served.lasts.replayed.changes ++ change ∷ [])
     ((c.in-Ok.ensures.told table s served does.edit.knows).done advances does) made.mounted made.fits moves in
     logged_at {G = g.S.Station} f _ s served call p.reply
     (leads_on {G = g.S.Station} f _ s served call p.reply p.table change made ((c.log.ensures.told table s served does.edit.knows).any_moment advances)) change refl (c.in-Ok.ensures.told table s served does.edit.knows).room (behind.serves, behind.records)

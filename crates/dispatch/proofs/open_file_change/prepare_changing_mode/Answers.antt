@@ -1,7 +1,7 @@
 use Rattle.std.proofs.Common.{Option, Ok, Err, refl, subst, sym}
 use Rattle.layout.specs.StateLimits.{limits_of}
 use Rattle.model.specs.Descriptors.{changes_open_mode}
-use Rattle.model.specs.States.{time_under}
+use Rattle.model.specs.Sessions.{kept_time}
 use Rattle.model.specs.declared.time.Time.{Time}
 use Rattle.calls.specs.Changing.{ComesOrStays}
 use Rattle.model.specs.declared.command.Command.TheVariants as command
@@ -18,7 +18,7 @@ use Rattle.dispatch.proofs.open_file_change.prepare_changing_mode.Goals as goal
 pub returns-in_err-found : goal.returns-in_err-found
 returns-in_err-found g c =
     passes _ c.from_residual.result c.from_residual.ensures.1 c.in_err-found.ensures (λ disk settled v stands volume mounted fits e told snapshots room. (
-      subst (λ (n : Option Time). ComesOrStays (changes_open_mode n (tree_with c.args.files.now v) c.args.fd c.args.mode) (limits_of c.args.inodes.now.geometry) v (table_of c.args.files.now) (Err e)) c.requires told,
+      subst (λ (n : Option Time). ComesOrStays (changes_open_mode n (tree_with c.args.files.now v) c.args.fd c.args.mode) (limits_of c.args.inodes.now.geometry) v (table_of c.args.files.now) (Err e)) c.time_of-now.ensures.is told,
       refl,
     ))
 
@@ -27,7 +27,7 @@ returns g c =
     let files = c.args.files.now in
     let limits = limits_of c.args.inodes.now.geometry in
     let o = c.in_ok-found.found in
-    subst (λ (x : Option PreparedChange). PreparesCall g.B.Blocks c.args.blocks.now c.prepare_fchmod.new.blocks c.args.inodes.now c.prepare_fchmod.new.inodes files (command.Fchmod c.args.fd c.args.mode)
+    subst (λ (x : Option PreparedChange). PreparesCall g.B.Blocks c.args.blocks.now c.prepare_fchmod.new.blocks c.args.inodes.now c.prepare_fchmod.new.inodes c.args.session.now files (command.Fchmod c.args.fd c.args.mode)
     (Ok (record { reply = Done; change = x; table = Stays }))) (sym c.said.ensures)
-    (does (command.Fchmod c.args.fd c.args.mode) c.requires c.in_ok-found.ensures (λ within. record { kind = tt; accepted = λ errno is. cc; moves = tt; numbered = tt; limits = said_within o }) (λ P is. said_so o P is) (λ v told. comes_so limits v (table_of files) (command.Fchmod c.args.fd c.args.mode) (changes_open_mode (time_under (limits_of c.args.inodes.now.geometry)) (tree_with files v) c.args.fd c.args.mode) o (λ reply w need told snapshots room. (told, refl))
-    (subst (λ (n : Option Time). ComesOrStays (changes_open_mode n (tree_with files v) c.args.fd c.args.mode) limits v (table_of files) (Ok o)) c.requires told)))
+    (does c.args.session.now (command.Fchmod c.args.fd c.args.mode) c.time_of-now.ensures.is c.in_ok-found.ensures (λ within. record { kind = tt; accepted = λ errno is. cc; moves = tt; numbered = tt; limits = said_within o }) (λ P is. said_so o P is) (λ v told. comes_so limits c.args.session.now v (table_of files) (command.Fchmod c.args.fd c.args.mode) (changes_open_mode (kept_time (limits_of c.args.inodes.now.geometry) c.args.session.now.time) (tree_with files v) c.args.fd c.args.mode) o (λ reply w need told snapshots room. (told, refl))
+    (subst (λ (n : Option Time). ComesOrStays (changes_open_mode n (tree_with files v) c.args.fd c.args.mode) limits v (table_of files) (Ok o)) c.time_of-now.ensures.is told)))

@@ -23,8 +23,8 @@ returns-in_err-opening g c =
     let limits = limits_of c.args.inodes.now.geometry in
     let table = table_of c.args.files.now in
     passes _ c.from_residual.result c.from_residual.ensures.1 c.in_err-opening.ensures (λ disk settled v stands volume mounted fits e told.
-    opens_leads c.args.path.now c.args.flags c.args.mode c.args.below limits v table c.args.tells (Refused e) v table nothing
-    (subst (λ (n : Option Time). opens c.args.tells c.args.below limits n (tree_of v table) c.args.path.now c.args.flags c.args.mode (Refused e) (tree_of v table) nothing) c.requires (told c.args.tells)))
+    opens_leads c.args.path.now c.args.flags c.args.mode c.args.below limits c.args.session.now v table c.args.tells (Refused e) v table nothing
+    (subst (λ (n : Option Time). opens c.args.tells c.args.below limits n (tree_of v table) c.args.path.now c.args.flags c.args.mode (Refused e) (tree_of v table) nothing) c.time_of-now.ensures.is (told c.args.tells)))
 
 pub returns : goal.returns
 returns g c =
@@ -33,11 +33,11 @@ returns g c =
     let o = c.in_ok-opening.opening in
     let call = opening_call c.args.tells c.args.path.now c.args.flags c.args.mode c.args.below in
     let answered = opening_reply c.args.tells o in
-    subst (λ (r : Reply). PreparesCall g.B.Blocks c.args.blocks.now c.prepare_open.new.blocks c.args.inodes.now c.prepare_open.new.inodes files call
+    subst (λ (r : Reply). PreparesCall g.B.Blocks c.args.blocks.now c.prepare_open.new.blocks c.args.inodes.now c.prepare_open.new.inodes c.args.session.now files call
     (Ok (record { reply = r; change = c.said.result; table = Opens o.fd o.file }))) (sym c.reply_of-reply.ensures)
-    (subst (λ (x : Option PreparedChange). PreparesCall g.B.Blocks c.args.blocks.now c.prepare_open.new.blocks c.args.inodes.now c.prepare_open.new.inodes files call
+    (subst (λ (x : Option PreparedChange). PreparesCall g.B.Blocks c.args.blocks.now c.prepare_open.new.blocks c.args.inodes.now c.prepare_open.new.inodes c.args.session.now files call
     (Ok (record { reply = answered; change = x; table = Opens o.fd o.file }))) (sym c.said.ensures)
-    (does call c.requires c.in_ok-opening.ensures
+    (does c.args.session.now call c.time_of-now.ensures.is c.in_ok-opening.ensures
     (λ can. record {
       kind = opening_kind c.args.path.now c.args.flags c.args.mode c.args.below c.args.tells o;
       accepted = opening_accepted c.args.tells o;
@@ -45,5 +45,5 @@ returns g c =
       numbered = can.3;
       limits = said_within o.changing;
     }) (λ P is. said_so o.changing P is)
-    (λ v told. opens_so c.args.path.now c.args.flags c.args.mode c.args.below limits v files c.args.tells o o.changing
-    (subst (λ (n : Option Time). OpensDescriptorOver (λ t. opens t c.args.below limits n (tree_with files v) c.args.path.now c.args.flags c.args.mode) limits v files o o.changing) c.requires told))))
+    (λ v told. opens_so c.args.path.now c.args.flags c.args.mode c.args.below limits c.args.session.now v files c.args.tells o o.changing
+    (subst (λ (n : Option Time). OpensDescriptorOver (λ t. opens t c.args.below limits n (tree_with files v) c.args.path.now c.args.flags c.args.mode) limits v files o o.changing) c.time_of-now.ensures.is told))))

@@ -2,7 +2,7 @@ use Rattle.std.proofs.Common.{ℤ, w64, Option, Ok, Err, refl, subst, sym}
 use Rattle.std.proofs.lemmas.Int.{to_z-of_z}
 use Rattle.layout.specs.StateLimits.{limits_of}
 use Rattle.model.specs.Descriptors.{truncates_open}
-use Rattle.model.specs.States.{time_under}
+use Rattle.model.specs.Sessions.{kept_time}
 use Rattle.model.specs.declared.time.Time.{Time}
 use Rattle.model.specs.declared.command.Command.TheVariants as command
 use Rattle.model.specs.declared.reply.Reply.TheVariants.{Done}
@@ -19,8 +19,8 @@ use Rattle.dispatch.proofs.open_file_change.prepare_truncating.Goals as goal
 pub returns-in_err-found : goal.returns-in_err-found
 returns-in_err-found g c =
     passes _ c.from_residual.result c.from_residual.ensures.1 c.in_err-found.ensures (λ disk settled v stands volume mounted fits e told snapshots room. (
-      subst (λ (n : Option Time). ComesOrStays (truncates_open (limits_of c.args.inodes.now.geometry) n (tree_with c.args.files.now v) c.args.fd c.args.size) (limits_of c.args.inodes.now.geometry) v (table_of c.args.files.now) (Err e)) c.requires.time
-          (subst (λ (z : ℤ). ComesOrStays (truncates_open (limits_of c.args.inodes.now.geometry) c.args.now (tree_with c.args.files.now v) c.args.fd z) (limits_of c.args.inodes.now.geometry) v (table_of c.args.files.now) (Err e)) (to_z-of_z w64 c.args.size c.ranges.size) told),
+      subst (λ (n : Option Time). ComesOrStays (truncates_open (limits_of c.args.inodes.now.geometry) n (tree_with c.args.files.now v) c.args.fd c.args.size) (limits_of c.args.inodes.now.geometry) v (table_of c.args.files.now) (Err e)) c.time_of-now.ensures.is
+          (subst (λ (z : ℤ). ComesOrStays (truncates_open (limits_of c.args.inodes.now.geometry) c.time_of-now.result (tree_with c.args.files.now v) c.args.fd z) (limits_of c.args.inodes.now.geometry) v (table_of c.args.files.now) (Err e)) (to_z-of_z w64 c.args.size c.ranges.size) told),
       refl,
     ))
 
@@ -29,8 +29,8 @@ returns g c =
     let files = c.args.files.now in
     let limits = limits_of c.args.inodes.now.geometry in
     let o = c.in_ok-found.found in
-    subst (λ (x : Option PreparedChange). PreparesCall g.B.Blocks c.args.blocks.now c.prepare_ftruncate.new.blocks c.args.inodes.now c.prepare_ftruncate.new.inodes files (command.Ftruncate c.args.fd c.args.size)
+    subst (λ (x : Option PreparedChange). PreparesCall g.B.Blocks c.args.blocks.now c.prepare_ftruncate.new.blocks c.args.inodes.now c.prepare_ftruncate.new.inodes c.args.session.now files (command.Ftruncate c.args.fd c.args.size)
     (Ok (record { reply = Done; change = x; table = Stays }))) (sym c.said.ensures)
-    (does (command.Ftruncate c.args.fd c.args.size) c.requires.time c.in_ok-found.ensures (λ within. record { kind = tt; accepted = λ errno is. cc; moves = tt; numbered = tt; limits = said_within o }) (λ P is. said_so o P is) (λ v told. comes_so limits v (table_of files) (command.Ftruncate c.args.fd c.args.size) (truncates_open (limits_of c.args.inodes.now.geometry) (time_under (limits_of c.args.inodes.now.geometry)) (tree_with files v) c.args.fd c.args.size) o (λ reply w need told snapshots room. (told, refl))
-    (subst (λ (n : Option Time). ComesOrStays (truncates_open limits n (tree_with files v) c.args.fd c.args.size) limits v (table_of files) (Ok o)) c.requires.time
-    (subst (λ (z : ℤ). ComesOrStays (truncates_open limits c.args.now (tree_with files v) c.args.fd z) limits v (table_of files) (Ok o)) (to_z-of_z w64 c.args.size c.ranges.size) told))))
+    (does c.args.session.now (command.Ftruncate c.args.fd c.args.size) c.time_of-now.ensures.is c.in_ok-found.ensures (λ within. record { kind = tt; accepted = λ errno is. cc; moves = tt; numbered = tt; limits = said_within o }) (λ P is. said_so o P is) (λ v told. comes_so limits c.args.session.now v (table_of files) (command.Ftruncate c.args.fd c.args.size) (truncates_open (limits_of c.args.inodes.now.geometry) (kept_time (limits_of c.args.inodes.now.geometry) c.args.session.now.time) (tree_with files v) c.args.fd c.args.size) o (λ reply w need told snapshots room. (told, refl))
+    (subst (λ (n : Option Time). ComesOrStays (truncates_open limits n (tree_with files v) c.args.fd c.args.size) limits v (table_of files) (Ok o)) c.time_of-now.ensures.is
+    (subst (λ (z : ℤ). ComesOrStays (truncates_open limits c.time_of-now.result (tree_with files v) c.args.fd z) limits v (table_of files) (Ok o)) (to_z-of_z w64 c.args.size c.ranges.size) told))))

@@ -1,5 +1,6 @@
 use Rattle.std.proofs.Common.{rules, ℕ, ℤ, Option, refl, subst, sym, w64, ◌≡◌}
 use Rattle.std.proofs.lemmas.Int.{to_z-of_z}
+use Rattle.model.specs.declared.session.Session.{Session}
 use Rattle.model.specs.declared.limits.Limits.{Limits}
 use Rattle.model.specs.Descriptors.{reads_from}
 use Rattle.model.specs.Room.{nothing}
@@ -16,30 +17,30 @@ use Rattle.dispatch.proofs.AskingLaws.{moves, moves_none}
 use Rattle.dispatch.proofs.open_file_reading.read_open_file.Goals as goal
 
 -- what a call is answered that was asked in these words
-as_asked : (limits : Limits) (v : Volume) (table after : ℕ → Option Description) (call asked : Command) (reply : Reply) → call ≡ asked → WouldLead limits v table asked reply v after nothing
-    → WouldLead limits v table call reply v after nothing
-as_asked limits v table after call asked reply is here = subst (λ (k : Command). WouldLead limits v table k reply v after nothing) (sym is) here
+as_asked : (limits : Limits) (said : Session) (v : Volume) (table after : ℕ → Option Description) (call asked : Command) (reply : Reply) → call ≡ asked → WouldLead limits said v table asked reply v after nothing
+    → WouldLead limits said v table call reply v after nothing
+as_asked limits said v table after call asked reply is here = subst (λ (k : Command). WouldLead limits said v table k reply v after nothing) (sym is) here
 
 pub returns-in_err-bytes-in-Read-clause-tells : goal.returns-in_err-bytes-in-Read-clause-tells
 returns-in_err-bytes-in-Read-clause-tells g c =
     moves_none _ c.from_residual.result c.from_residual.ensures.1 c.in_err-bytes-in-Read.ensures
-    (λ v errno told limits. as_asked limits v _ _ c.args.call.now (command.Read c.in-Read.fd c.in-Read.count) (Refused errno) c.in-Read.is (λ snapshots room. (told, refl)))
+    (λ v errno told limits said. as_asked limits said v _ _ c.args.call.now (command.Read c.in-Read.fd c.in-Read.count) (Refused errno) c.in-Read.is (λ snapshots room. (told, refl)))
 
 pub returns-in_ok-bytes-in-Read-clause-tells : goal.returns-in_ok-bytes-in-Read-clause-tells
 returns-in_ok-bytes-in-Read-clause-tells g c =
-    moves c.in_ok-bytes-in-Read.ensures (λ v told limits. as_asked limits v _ _ c.args.call.now (command.Read c.in-Read.fd c.in-Read.count) (Data c.in_ok-bytes-in-Read.bytes) c.in-Read.is (λ snapshots room. (told, refl)))
+    moves c.in_ok-bytes-in-Read.ensures (λ v told limits said. as_asked limits said v _ _ c.args.call.now (command.Read c.in-Read.fd c.in-Read.count) (Data c.in_ok-bytes-in-Read.bytes) c.in-Read.is (λ snapshots room. (told, refl)))
 
 pub returns-in_err-bytes-in-Pread-clause-tells : goal.returns-in_err-bytes-in-Pread-clause-tells
 returns-in_err-bytes-in-Pread-clause-tells g c =
     moves_none _ c.from_residual-in_err-bytes-in-Pread.result c.from_residual-in_err-bytes-in-Pread.ensures.1 (not_moved c.in_err-bytes-in-Pread.ensures)
-    (λ v errno told limits. as_asked limits v _ _ c.args.call.now (command.Pread c.in-Pread.fd c.in-Pread.offset c.in-Pread.count) (Refused errno) c.in-Pread.is (λ snapshots room. (
+    (λ v errno told limits said. as_asked limits said v _ _ c.args.call.now (command.Pread c.in-Pread.fd c.in-Pread.offset c.in-Pread.count) (Refused errno) c.in-Pread.is (λ snapshots room. (
       subst (λ (z : ℤ). reads_from (tree_with c.args.files.now v) c.in-Pread.fd z c.in-Pread.count (Refused errno) (tree_with c.args.files.now v) nothing) (to_z-of_z w64 c.in-Pread.offset (search rules)) told,
       refl,
     )))
 
 pub returns-in_ok-bytes-in-Pread-clause-tells : goal.returns-in_ok-bytes-in-Pread-clause-tells
 returns-in_ok-bytes-in-Pread-clause-tells g c =
-    moves (not_moved c.in_ok-bytes-in-Pread.ensures) (λ v told limits. as_asked limits v _ _ c.args.call.now (command.Pread c.in-Pread.fd c.in-Pread.offset c.in-Pread.count) (Data c.in_ok-bytes-in-Pread.bytes) c.in-Pread.is (λ snapshots room. (
+    moves (not_moved c.in_ok-bytes-in-Pread.ensures) (λ v told limits said. as_asked limits said v _ _ c.args.call.now (command.Pread c.in-Pread.fd c.in-Pread.offset c.in-Pread.count) (Data c.in_ok-bytes-in-Pread.bytes) c.in-Pread.is (λ snapshots room. (
       subst (λ (z : ℤ). reads_from (tree_with c.args.files.now v) c.in-Pread.fd z c.in-Pread.count (Data c.in_ok-bytes-in-Pread.bytes) (tree_with c.args.files.now v) nothing) (to_z-of_z w64 c.in-Pread.offset (search rules)) told,
       refl,
     )))
@@ -47,8 +48,8 @@ returns-in_ok-bytes-in-Pread-clause-tells g c =
 pub returns-in_err-stat-in-Fstat-clause-tells : goal.returns-in_err-stat-in-Fstat-clause-tells
 returns-in_err-stat-in-Fstat-clause-tells g c =
     moves_none _ c.from_residual-in_err-stat-in-Fstat.result c.from_residual-in_err-stat-in-Fstat.ensures.1 (not_moved c.in_err-stat-in-Fstat.ensures)
-    (λ v errno told limits. as_asked limits v _ _ c.args.call.now (command.Fstat c.in-Fstat.fd) (Refused errno) c.in-Fstat.is (λ snapshots room. (told, refl)))
+    (λ v errno told limits said. as_asked limits said v _ _ c.args.call.now (command.Fstat c.in-Fstat.fd) (Refused errno) c.in-Fstat.is (λ snapshots room. (told, refl)))
 
 pub returns-in_ok-stat-in-Fstat-clause-tells : goal.returns-in_ok-stat-in-Fstat-clause-tells
 returns-in_ok-stat-in-Fstat-clause-tells g c =
-    moves (not_moved c.in_ok-stat-in-Fstat.ensures) (λ v told limits. as_asked limits v _ _ c.args.call.now (command.Fstat c.in-Fstat.fd) (Stat c.in_ok-stat-in-Fstat.stat) c.in-Fstat.is (λ snapshots room. (told, refl)))
+    moves (not_moved c.in_ok-stat-in-Fstat.ensures) (λ v told limits said. as_asked limits said v _ _ c.args.call.now (command.Fstat c.in-Fstat.fd) (Stat c.in_ok-stat-in-Fstat.stat) c.in-Fstat.is (λ snapshots room. (told, refl)))

@@ -16,5 +16,5 @@ returns g c =
     (λ s shown. inl (record { sure = table_sure s call c.requires; still = refl }), λ is. (refl, told.no_want)) reads_nothing told.kind told.no_fault
     (λ s shown.
     let v = shown.running in
-    table_leads {G = g.S.Station} f _ shown call c.answer_from_table.result (stands_same {G = g.S.Station} f shown refl) (table_of c.answer_from_table.new.files) refl
-    (told.fits v shown.fits) (told.mounted v (its_table {G = g.S.Station} f shown)) (told.answers (limits_of f.root.geometry) v shown.fits))
+    table_leads {G = g.S.Station} f _ shown call c.answer_from_table.result refl (stands_same {G = g.S.Station} f shown refl) (table_of c.answer_from_table.new.files) refl
+    (told.fits v shown.fits) (told.mounted v (its_table {G = g.S.Station} f shown)) (told.answers (limits_of f.root.geometry) f.session v shown.fits))

@@ -21,7 +21,7 @@ returns-in-Ok-close g c =
       λ is. (ap (λ (b : Overlay g.row.S.Denot g.S.Station). b.buffers.station) (told.linked is).0, done_is_no_want),
     )
     (reads_ok told.looks.reads) tt done_is_no_fault
-    (λ s shown. close_leads {G = g.S.Station} c.records_lead_on.ensures f _ shown fd Done told.looks c.in-Ok-close.ensures refl)
+    (λ s shown. close_leads {G = g.S.Station} c.records_lead_on.ensures f _ shown fd Done refl told.looks c.in-Ok-close.ensures refl)
 
 pub returns-in-Err-close : goal.returns-in-Err-close
 returns-in-Err-close g c =
@@ -35,7 +35,7 @@ returns-in-Err-close g c =
       λ is. (ap (λ (b : Overlay g.row.S.Denot g.S.Station). b.buffers.station) (told.linked is).0, own_want {T = Unit {0}} (Err errno) errno refl own),
     )
     (reads_ok told.looks.reads) tt (own_refusal {T = Unit {0}} (Err errno) errno refl own)
-    (λ s shown. close_leads {G = g.S.Station} c.records_lead_on.ensures f _ shown fd (Refused errno) told.looks c.in-Err-close.ensures refl)
+    (λ s shown. close_leads {G = g.S.Station} c.records_lead_on.ensures f _ shown fd (Refused errno) refl told.looks c.in-Err-close.ensures refl)
 
 pub returns-in-Err : goal.returns-in-Err
 returns-in-Err g c =
@@ -43,7 +43,7 @@ returns-in-Err g c =
     let told = c.in-Err.ensures in
     unread {G = g.S.Station} f _ (command.Close c.args.fd) refl (views_same {G = g.S.Station} f refl) c.in-Err.error
     (λ s shown. orphans_not_sure {G = g.S.Station} c.named_files_have_paths.ensures f s shown c.args.fd (on_open {G = g.S.Station} f shown told.sure), λ is. (told.linked is).1) (reads_err told.looks.reads)
-    (λ s shown. still_shown {G = g.S.Station} f _ shown (stands_looked {G = g.S.Station} f shown told.looks) refl (λ v fits. fits))
+    (λ s shown. still_shown {G = g.S.Station} f _ shown (stands_looked {G = g.S.Station} f shown told.looks) refl refl (λ v fits. fits))
     (λ s shown. damaged_too c.in-Err.error (never_damaged {G = g.S.Station} f shown told.damaged))
 
 pub invariant_of-system : goal.invariant_of-system

@@ -18,10 +18,10 @@ returns g c =
     let seen = read.tells in
     let looks = seen.looks in
     came_to {G = g.S.Station} f _ call refl (views_same {G = g.S.Station} f refl) result _ c.answer.ensures (looking_not_sure {G = g.S.Station} f call c.requires) looks.reads seen.own read.kind read.no_fault
-    (on_err_weaker result (λ same s shown. still_shown {G = g.S.Station} f _ shown (stands_looked {G = g.S.Station} f shown looks) (ap table_of same) seen.fits) seen.refused)
+    (on_err_weaker result (λ same s shown. still_shown {G = g.S.Station} f _ shown (stands_looked {G = g.S.Station} f shown looks) refl (ap table_of same) seen.fits) seen.refused)
     (λ s shown.
     let v = shown.running in
     IfOk-weaker (read_outcome result) _ _ (λ r answers.
-    table_leads {G = g.S.Station} f _ shown call _ (stands_looked {G = g.S.Station} f shown looks) (table_of c.read_open_file-outcome.new.files) refl (seen.fits v shown.fits)
-    (seen.mounted v (its_table {G = g.S.Station} f shown)) (answers (limits_of f.root.geometry))) (on_open {G = g.S.Station} f shown seen.answers))
+    table_leads {G = g.S.Station} f _ shown call _ refl (stands_looked {G = g.S.Station} f shown looks) (table_of c.read_open_file-outcome.new.files) refl (seen.fits v shown.fits)
+    (seen.mounted v (its_table {G = g.S.Station} f shown)) (answers (limits_of f.root.geometry) f.session)) (on_open {G = g.S.Station} f shown seen.answers))
     (λ s shown. never_damaged {G = g.S.Station} f shown seen.damaged)

@@ -23,32 +23,32 @@ pub returns-in_err-found : goal.returns-in_err-found
 returns-in_err-found g c = λ files.
     let limits = limits_of c.args.inodes.now.geometry in
     passes _ c.from_residual.result c.from_residual.ensures.1 (stores_beside c.in_err-found.ensures files) (λ disk settled v stands volume mounted fits e told.
-    path_leads (path_calls.Store c.args.path.now c.args.offset c.args.bytes.now) limits v (table_of files) (Refused e) v nothing
-    (subst (λ (n : Option Time). stores limits n (tree_of v (table_of files)) c.args.path.now c.args.offset c.args.bytes.now (Refused e) (tree_of v (table_of files)) nothing) c.requires
-    (stores_at limits c.args.now v (table_of files) c.args.path.now c.args.bytes.now (Err e) (to_z-of_z w64 c.args.offset c.ranges.offset) told)))
+    path_leads (path_calls.Store c.args.path.now c.args.offset c.args.bytes.now) limits c.args.session.now v (table_of files) (Refused e) v nothing
+    (subst (λ (n : Option Time). stores limits n (tree_of v (table_of files)) c.args.path.now c.args.offset c.args.bytes.now (Refused e) (tree_of v (table_of files)) nothing) c.time_of-now.ensures.is
+    (stores_at limits c.time_of-now.result v (table_of files) c.args.path.now c.args.bytes.now (Err e) (to_z-of_z w64 c.args.offset c.ranges.offset) told)))
 
 pub returns-in-Some : goal.returns-in-Some
 returns-in-Some g c = λ files.
     let call = command.Path (path_calls.Store c.args.path.now c.args.offset c.args.bytes.now) in
     let limits = limits_of c.args.inodes.now.geometry in
     let w : Storing = c.in-Some.storing in
-    let change : PreparedChange = record { time = c.args.now; «record» = records.Writes w.number w.offset c.args.bytes; prepared = w.prepared } in
-    does call c.requires (stores_beside (rw c.in-Some.is at c.in_ok-found.ensures) files) (λ within. record { kind = tt; accepted = λ errno is. cc; moves = tt; numbered = tt; limits = (within.0, within.1) }) (λ P is. is) (λ v told.
-    let here = stores_at limits c.args.now v (table_of files) c.args.path.now c.args.bytes.now (Ok (Some w)) (to_z-of_z w64 c.args.offset c.ranges.offset) told in
-    goes_beside limits v (table_of files) call (Wrote (length c.args.bytes.now)) Stays change here.0 (λ x. tt) (λ snapshots room. (
-      subst (λ (n : Option Time). stores limits n (tree_of v (table_of files)) c.args.path.now c.args.offset c.args.bytes.now (Wrote (length c.args.bytes.now)) (tree_of (applied (logged_by change) v) (table_of files)) (logs (work_of v (logged_by change)))) c.requires here.1,
+    let change : PreparedChange = record { time = c.time_of-now.result; «record» = records.Writes w.number w.offset c.args.bytes; prepared = w.prepared } in
+    does c.args.session.now call c.time_of-now.ensures.is (stores_beside (rw c.in-Some.is at c.in_ok-found.ensures) files) (λ within. record { kind = tt; accepted = λ errno is. cc; moves = tt; numbered = tt; limits = (within.0, within.1) }) (λ P is. is) (λ v told.
+    let here = stores_at limits c.time_of-now.result v (table_of files) c.args.path.now c.args.bytes.now (Ok (Some w)) (to_z-of_z w64 c.args.offset c.ranges.offset) told in
+    goes_beside limits c.args.session.now v (table_of files) call (Wrote (length c.args.bytes.now)) Stays change here.0 (λ x. tt) (λ snapshots room. (
+      subst (λ (n : Option Time). stores limits n (tree_of v (table_of files)) c.args.path.now c.args.offset c.args.bytes.now (Wrote (length c.args.bytes.now)) (tree_of (applied (logged_by change) v) (table_of files)) (logs (work_of v (logged_by change)))) c.time_of-now.ensures.is here.1,
       refl,
     )))
 
 pub returns-in-None : goal.returns-in-None
 returns-in-None g c = λ files.
-    does (command.Path (path_calls.Store c.args.path.now c.args.offset c.args.bytes.now)) c.requires (stores_beside (rw c.in-None.is at c.in_ok-found.ensures) files)
+    does c.args.session.now (command.Path (path_calls.Store c.args.path.now c.args.offset c.args.bytes.now)) c.time_of-now.ensures.is (stores_beside (rw c.in-None.is at c.in_ok-found.ensures) files)
     (λ within. record { kind = tt; accepted = λ errno is. cc; moves = tt; numbered = tt; limits = tt }) (λ P is. tt)
     (λ v told. (
       tt,
       λ snapshots room. (
-        subst (λ (n : Option Time). stores (limits_of c.args.inodes.now.geometry) n (tree_of v (table_of files)) c.args.path.now c.args.offset c.args.bytes.now (Wrote 0) (tree_of v (table_of files)) nothing) c.requires
-            (stores_at (limits_of c.args.inodes.now.geometry) c.args.now v (table_of files) c.args.path.now c.args.bytes.now (Ok None) (to_z-of_z w64 c.args.offset c.ranges.offset) told),
+        subst (λ (n : Option Time). stores (limits_of c.args.inodes.now.geometry) n (tree_of v (table_of files)) c.args.path.now c.args.offset c.args.bytes.now (Wrote 0) (tree_of v (table_of files)) nothing) c.time_of-now.ensures.is
+            (stores_at (limits_of c.args.inodes.now.geometry) c.time_of-now.result v (table_of files) c.args.path.now c.args.bytes.now (Ok None) (to_z-of_z w64 c.args.offset c.ranges.offset) told),
         refl,
       ),
     ))

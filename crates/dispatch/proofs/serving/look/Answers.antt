@@ -1,4 +1,4 @@
-use Rattle.std.proofs.Common.{rules, ℤ, subst, w64}
+use Rattle.std.proofs.Common.{rules, ℤ, Ok, subst, w64}
 use Rattle.std.proofs.lemmas.Int.{to_z-of_z}
 use Rattle.model.specs.declared.command.Command.TheVariants as command
 use Rattle.dispatch.specs.Answering.{Answers}
@@ -17,3 +17,8 @@ pub returns-in-Extent : goal.returns-in-Extent
 returns-in-Extent g c = rw c.in-Extent.is
     (subst (λ (z : ℤ). Answers c.args.system.now c.look_at_blocks.new.system (command.Extent c.in-Extent.path z) c.look_at_blocks.result)
     (to_z-of_z w64 c.in-Extent.offset (search rules)) c.look_at_blocks.ensures)
+
+pub returns-in-At : goal.returns-in-At
+returns-in-At g c = rw c.in-At.is
+    (subst (λ (z : ℤ). Answers c.args.system.now c.say_time.new.system (command.At z c.in-At.nanoseconds) (Ok c.say_time.result))
+    (to_z-of_z w64 c.in-At.seconds (search rules)) c.say_time.ensures)

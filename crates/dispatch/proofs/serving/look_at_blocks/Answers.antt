@@ -23,7 +23,7 @@ returns g c =
     let looks = seen.looks in
     looked_up {G = g.S.Station} f _ (command.Extent path c.args.offset) refl (views_same {G = g.S.Station} f refl) c.tell_extent.result _ c.answer.ensures (λ s shown x. x, λ x. x)
     looks.reads seen.own c.tell_extent.ensures.kind c.tell_extent.ensures.no_fault
-    (λ s shown. still_shown {G = g.S.Station} f _ shown (stands_looked {G = g.S.Station} f shown looks) refl (λ v fits. fits))
+    (λ s shown. still_shown {G = g.S.Station} f _ shown (stands_looked {G = g.S.Station} f shown looks) refl refl (λ v fits. fits))
     (λ s shown. IfOk-weaker (read_outcome c.tell_extent.result) _ _
     (λ r answers room stored.
     subst (λ (p : List ℕ). WouldStep room s (command.Extent p c.args.offset) (answered_reply r) s nothing) c.as_bytes.ensures

@@ -21,7 +21,7 @@ returns-in-Ok g c =
         refl,
         refl,
       );
-      shows = still_shown {G = g.S.Station} f _ shown (stands_same {G = g.S.Station} f shown refl) refl (λ v fits. fits);
+      shows = still_shown {G = g.S.Station} f _ shown (stands_same {G = g.S.Station} f shown refl) refl refl (λ v fits. fits);
     })
 
 pub returns-in-Err : goal.returns-in-Err
@@ -29,5 +29,5 @@ returns-in-Err g c =
     let f = c.args.system.now in
     let told = c.in-Err.ensures in
     unread {G = g.S.Station} f _ command.SnapList refl (views_same {G = g.S.Station} f refl) c.in-Err.error (λ s shown x. x, λ x. x) (reads_err told.reads)
-    (λ s shown. still_shown {G = g.S.Station} f _ shown (stands_same {G = g.S.Station} f shown refl) refl (λ v fits. fits))
+    (λ s shown. still_shown {G = g.S.Station} f _ shown (stands_same {G = g.S.Station} f shown refl) refl refl (λ v fits. fits))
     (λ s shown. damaged_too c.in-Err.error (told.damaged (disk_under {G = g.S.Station} f) shown.shows shown.first shown.snapshots shown.under.holds))

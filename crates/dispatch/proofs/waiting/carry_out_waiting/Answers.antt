@@ -34,7 +34,7 @@ returns-in-None g c = record {
       let p = c.args.prepared in
       let put = c.put_into-in-None.ensures in
       done_ahead {G = g.S.Station} f _ call refl (views_same {G = g.S.Station} f refl) p.reply reads_nothing s ahead
-      (unchanged_leads {G = g.S.Station} f _ (ahead_shows ahead) call p c.in-None.is prepared refl (record { table = put.table; fits = put.fits; mounted = put.mounted }));
+      (unchanged_leads {G = g.S.Station} f _ (ahead_shows ahead) call p c.in-None.is prepared refl refl (record { table = put.table; fits = put.fits; mounted = put.mounted }));
   own = (λ is. cc, λ is. cc);
 }
 
@@ -66,11 +66,11 @@ returns-in-Ok g c = record {
       let fits : FitsVolume mid.files after = subst (λ (w : Volume). FitsVolume mid.files w) behind.1 behind.0.shown.fits in
       let mounted : IsMounted after (table_of mid.files) = subst (λ (t : ℕ → Option Description). IsMounted after t) behind.0.shown.opened made.mounted in
       record {
-        next = state_with limits after now_table shown.snapshots;
+        next = state_with limits f.session after now_table shown.snapshots;
         need = logs (work_of v change);
         step = λ room stored. made.step room;
         room = told.room;
-        ahead = moved_behind limits shown.snapshots behind.0 behind.1 c.put_into.new.files now_table opened (put.fits after fits made.fits)
+        ahead = moved_behind limits f.session shown.snapshots behind.0 behind.1 c.put_into.new.files now_table opened (put.fits after fits made.fits)
             (subst (λ (t : ℕ → Option Description). IsMounted after t) (sym opened) (put.mounted after fits mounted made.fits));
       };
   own = (λ is. cc, λ is. cc);

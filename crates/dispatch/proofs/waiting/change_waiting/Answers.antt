@@ -59,6 +59,7 @@ returns-in-Ok g c =
     let same : g.S.Station.meaning mid.blocks.buffers.station ≡ g.S.Station.meaning new.blocks.buffers.station = ap (λ (b : Overlay g.row.S.Denot g.S.Station). g.S.Station.meaning b.buffers.station) (sym did.blocks) in
     let log : mid.log ≡ f.log = ap (λ (k : Parts). k.log) parts in
     let view : new.view ≡ mid.view = ap (λ (k : Parts). k.view) did.parts in
+    let said : new.session ≡ mid.session = ap (λ (k : Parts). k.session) did.parts in
     let not_sure = changing_not_sure {G = g.S.Station} f call c.requires in
     record {
       reads = subst (λ (m : Meaning). ReadsOn (g.S.Station.meaning f.blocks.buffers.station) m) same reads.below;
@@ -70,6 +71,7 @@ returns-in-Ok g c =
         inodes = new.inodes;
         view = sym view i;
         files = new.files;
+        session = sym said i;
       });
       pending = ap (λ (b : Overlay g.row.S.Denot g.S.Station). b.pending) did.blocks ∙ reads.pending;
       no_fault = IfOk-weaker r _ _ (λ reply is. subst TellsNoFault (sym is) (within.accepted EIO, within.accepted FAILED)) did.reply;

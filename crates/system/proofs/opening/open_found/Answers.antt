@@ -37,7 +37,7 @@ returns-in-Ok-clause-serves g c honest just of first last snapshots changes hold
     (c.new-buffers.ensures.shows (blocks_of i.disk) honest (λ place within. refl)) c.new-blocks.ensures.shows in
     let from = read_from {G = g.S.Station} c.args.station c.new-buffers.result c.new-blocks.result c.new-buffers.ensures.station c.new-blocks.ensures.buffers c.read_image.new.blocks c.read_image.ensures.reads.reads in
     let rests : c.read_image.new.blocks.pending ≡ None = (c.read_image.ensures.reads.reads c.new-blocks.result (reads_nothing g.S.Station c.new-blocks.result)).pending ∙ c.new-blocks.ensures.none in
-    let over : IsOver new kept c.args.found c.in-Ok.field-0 first last snapshots changes c.new.result c.new.ensures.closed c.new.ensures.fits i = record {
+    let over : IsOver new kept c.args.found c.in-Ok.field-0 first last snapshots changes c.new.result c.new.ensures.closed c.new.ensures.fits c.new-in-Ok.result c.new-in-Ok.ensures i = record {
       just = still_left m new i from.same from.goes just;
       shows = subst (λ (l : Option PendingPoint). ShowsOver new kept l (blocks_of i.disk)) rests (c.read_image.ensures.reads.same (blocks_of i.disk) shows);
       of = of;
@@ -46,7 +46,7 @@ returns-in-Ok-clause-serves g c honest just of first last snapshots changes hold
     } in
     let limits = limits_of c.args.found.newest.root.geometry in
     let mounted = (c.mounts_find_volumes.ensures limits last (c.replays_keep_volumes.ensures limits first changes last holds.holds.volume holds.replays)).1 in
-    serves new kept c.args.found c.in-Ok.field-0 first last snapshots changes c.new.result c.new.ensures.closed c.new.ensures.fits c.read_image.new.blocks.pending rests i (from.goes honest).seen mounted
+    serves new kept c.args.found c.in-Ok.field-0 first last snapshots changes c.new.result c.new.ensures.closed c.new.ensures.fits c.new-in-Ok.result c.new-in-Ok.ensures c.read_image.new.blocks.pending rests i (from.goes honest).seen mounted
     c.in-Ok.ensures.fits.runs over
 
 pub returns-in-Err-clause-serves : goal.returns-in-Err-clause-serves

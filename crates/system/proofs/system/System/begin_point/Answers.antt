@@ -339,7 +339,7 @@ returns-in-Ok-take_memory g c =
       refused = λ known table s serves. tt;
       memory = tt;
       log = c.go_on.ensures.end ∙ ap (λ (n : ℕ). record f.log { epoch = n; end = Unopened }) next;
-      same = (refl, refl);
+      same = (refl, refl, refl);
       generation = point.generation_is ∙ epoch;
       unchanged = c.switch_to_new_root.ensures.unchanged;
       pending = λ known table s serves base v may step made room.

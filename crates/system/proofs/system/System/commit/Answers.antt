@@ -83,7 +83,7 @@ returns-clause-serves g c = λ table s kept ahead.
     let new = g.S.Station.meaning c.append_all.new.station in
     let before = c.args.waiting.now in
     let same : c.waiting.inside.pledged ≡ before.pledged = ap (λ (w : Waits). w.pledged) c.waiting.view_is in
-    let free = within ahead f.free (free_with {G = g.S.Station} ahead.then_inodes ahead.then_files f ahead.then_table kept ahead.served ∙ ap free_of (sym ahead.base)) in
+    let free = within ahead f.free (free_with {G = g.S.Station} ahead.then_inodes ahead.then_files ahead.then_session f ahead.then_table kept ahead.served ∙ ap free_of (sym ahead.base)) in
     let pledged : f.pledged + before.pledged ≡ c.saturating_add-self.result =
     omega (arith, c.saturating_add-self.ensures, same, free, f.counted, few_free f.map.parts.items f.map.count, f.count, f.is_root.head.sizes.most_blocks) in
     let pledged_then : f.pledged_then + before.pledged ≡ f.pledged_then + c.waiting.inside.pledged = ap (λ (n : ℕ). f.pledged_then + n) (sym same) in

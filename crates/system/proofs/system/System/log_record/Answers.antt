@@ -94,7 +94,7 @@ at_any_moment : (g : Over) (c : After-append g) (table : ℕ → Option Descript
     → let f = c.args.self.now in
     let m = g.S.Station.meaning f.blocks.buffers.station in
     let after = swept table (applied (change_of c.args.change.now) serves.running) in
-    LeavesOnly m (g.S.Station.meaning c.append.new.station) (λ i. OpensTo m s i ⊎ OpensTo m (state_with (limits_of f.root.geometry) after table serves.snapshots) i)
+    LeavesOnly m (g.S.Station.meaning c.append.new.station) (λ i. OpensTo m s i ⊎ OpensTo m (state_with (limits_of f.root.geometry) f.session after table serves.snapshots) i)
 at_any_moment g c table s serves sized advances =
     let f = c.args.self.now in
     let change = change_of c.args.change.now in

@@ -6,6 +6,7 @@ use Rattle.station.specs.Moments.{HasGrown, LeavesJust}
 use Rattle.station.proofs.Moments.{same_twice, unchanged_twice}
 use Rattle.layout.specs.Places.{blocks_of}
 use Rattle.layout.specs.declared.root.Root.{Root}
+use Rattle.model.specs.Sessions.{new_session}
 use Rattle.model.specs.Records.{without_orphans}
 use Rattle.model.specs.States.{Forgets}
 use Rattle.images.specs.Faults.{IsFaultlessUnder}
@@ -56,9 +57,9 @@ returns-in-Ok-clause-opens g c honest s to =
     (subst (λ (r : Root). HoldsRecords (blocks_of m.seen.disk) r m.seen.nvram o.first o.last o.snapshots o.changes) (sym is) there) in
     let just = subst (λ (i : Images). LeavesJust mid i) (sym went.seen) c.in-Ok.ensures.settled.0 in
     let of = subst (λ (i : Images). IsOf i c.in-Ok.found) (sym went.seen) (c.in-Ok.ensures.of_station honest) in
-    let forgets = subst (λ (r : Root). Forgets s (state_with (limits_of r.geometry) (without_orphans o.last) (λ d. None) o.snapshots)) (sym is) o.state in
+    let forgets = subst (λ (r : Root). Forgets s (state_with (limits_of r.geometry) new_session (without_orphans o.last) (λ d. None) o.snapshots)) (sym is) o.state in
     match_weaker c.open_found.result _ _ _ _
-    (λ f serves. (state_with (limits_of c.in-Ok.found.newest.root.geometry) (without_orphans o.last) (λ d. None) o.snapshots, forgets, serves))
+    (λ f serves. (state_with (limits_of c.in-Ok.found.newest.root.geometry) new_session (without_orphans o.last) (λ d. None) o.snapshots, forgets, serves))
     (λ e outside. outside)
     (c.open_found.ensures.serves went.honest just of o.first o.last o.snapshots o.changes holds)
 

@@ -89,7 +89,7 @@ returns-clause-told g c = λ table s kept ahead knows.
           let pledges = c.in-Ok.ensures.pledges in
           let costs_it = c.cost_of-cost.ensures.cost v size in
           let reserved = reserves c.cuts_open.ensures records shown change advances f.free c.cost_of-cost.result costs_it (omega (arith, room))
-          (free_with {G = g.S.Station} ahead.then_inodes ahead.then_files f ahead.then_table kept ahead.served ∙ ap free_of (sym ahead.base)) in
+          (free_with {G = g.S.Station} ahead.then_inodes ahead.then_files ahead.then_session f ahead.then_table kept ahead.served ∙ ap free_of (sym ahead.base)) in
           one_waits ahead c.cuts_open.ensures records change advances c.cost_of-cost.result costs_it reserved
           c.add.new.self (c.in-Ok.ensures.added (map change_bytes ahead.waiting) ahead.batch) pledges
           c.commit_swept.new.inodes c.commit_swept.new.files
