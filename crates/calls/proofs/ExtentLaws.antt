@@ -1,18 +1,16 @@
 -- What the definitions say of telling the stored blocks of a file over a path, by what was found in
 -- a volume.
-use Rattle.std.proofs.Common.{◌≡◌, ◌≢◌, ℕ, ℤ, Bool, nat_abs, List, [], true, false, Option, Some, None, Result, Ok, Err, length, unwrap_or, refl, sym, ap, subst, ◌∙◌}
-use Rattle.std.specs.Prelude.{IsFalse, IsTrue}
+use Rattle.std.proofs.Common.{◌≡◌, ◌≢◌, ℕ, ℤ, Bool, nat_abs, List, true, false, Option, Some, None, Result, Ok, Err, refl, sym, ap, subst, ◌∙◌}
+use Rattle.std.specs.Prelude.{IsFalse}
 use Rattle.std.proofs.lemmas.Bool.{cond-true, cond-false, false≢true}
 use Rattle.model.specs.declared.limits.Limits.{Limits}
-use Rattle.model.specs.Edits.{contents}
-use Rattle.model.specs.Holes.{TellsExtent}
-use Rattle.model.specs.Outcomes.{Outcome, answers, refuses}
+use Rattle.model.specs.Outcomes.{Outcome, refuses}
 use Rattle.model.specs.Paths.{Path, Tests, first_refusal, text_tests, text_tests_then}
 use Rattle.model.specs.Reading.{is_negative, tells_extent, with_extent}
 use Rattle.model.specs.Room.{nothing}
 use Rattle.model.specs.Trees.{Tree, Object, Description}
 use Rattle.model.specs.Trees as trees
-use Rattle.model.specs.Volumes.{Node, directory_node, file_node, link_node, Volume, bytes_of_node, object_of, is_file_node, tree_of}
+use Rattle.model.specs.Volumes.{Node, directory_node, file_node, link_node, Volume, object_of, is_file_node, tree_of}
 use Rattle.model.specs.declared.errno.Errno.{Errno}
 use Rattle.model.specs.declared.errno.Errno.TheVariants.{EISDIR, EINVAL}
 use Rattle.model.specs.declared.reply.Extent.{Extent}

@@ -9,7 +9,8 @@ pub mod RefusalLaws
 pub mod LeadLaws
 pub mod StatLaws
 pub mod SeeLaws
-pub mod ModeLaws
+pub mod AttributeLaws
+pub mod AttrLaws
 pub mod GetLaws
 pub mod ExtentLaws
 pub mod NameLaws

@@ -1,5 +1,5 @@
 -- What the definitions say of giving a file one more name over paths, by what was found in a volume.
-use Rattle.std.proofs.Common.{◌≡◌, ◌≢◌, inl, inr, ℕ, ◌+◌, ◌<◌, List, [], ◌∷◌, ◌++◌, Bool, true, false, Option, Some, None, IsSome, Result, Ok, Err, add-one, refl, sym, ap, subst, ◌∙◌}
+use Rattle.std.proofs.Common.{◌≡◌, inl, inr, ℕ, ◌+◌, ◌<◌, List, [], ◌∷◌, ◌++◌, Bool, true, false, Option, Some, None, Result, Ok, Err, add-one, refl, sym, ap, subst, ◌∙◌}
 use Rattle.std.specs.Prelude.{nat_le}
 use Rattle.std.proofs.lemmas.Bool.{cases_eq, false≢true, lt-leb, le-leb}
 use Rattle.model.specs.declared.limits.Limits.{Limits}
@@ -17,7 +17,7 @@ use Rattle.model.specs.Room.{Need, adds_name, logs, nothing}
 use Rattle.model.specs.Trees.{Tree, Object, Description, IsTree}
 use Rattle.model.specs.Trees as trees
 use Rattle.model.specs.Touches.{touches_entry}
-use Rattle.model.specs.Volumes.{Node, directory_node, file_node, link_node, Volume, object_at, object_of, is_directory_node, is_file_node, is_open, linked, set_name, swept, swept_node, tree_of, with_name_more, with_node, IsMounted, IsVolume}
+use Rattle.model.specs.Volumes.{Node, directory_node, file_node, link_node, Volume, object_of, is_directory_node, is_file_node, is_open, linked, set_name, swept, swept_node, tree_of, with_name_more, with_node, IsMounted, IsVolume}
 use Rattle.model.specs.declared.attributes.Touch.TheVariants.{Status}
 use Rattle.model.specs.declared.errno.Errno.{Errno}
 use Rattle.model.specs.declared.errno.Errno.TheVariants.{DIRFULL, EEXIST, EMLINK, ENAMETOOLONG, EPERM}
@@ -38,8 +38,8 @@ use Rattle.calls.proofs.LeadLaws.{along_reached, along_refused, along_there}
 use Rattle.calls.proofs.MarkLaws.{entered_here, marked_unswept}
 use Rattle.calls.proofs.TestedLaws.{tested_none, tested_some}
 use Rattle.calls.proofs.PlaceLaws.{refused_at, there_at}
-use Rattle.model.proofs.ObjectLaws.{node_here, node_object, node_other}
-use Rattle.model.proofs.OptionLaws.{none_some, some_none}
+use Rattle.model.proofs.ObjectLaws.{node_here, node_other}
+use Rattle.model.proofs.OptionLaws.{none_some}
 
 -- texts that don't pass their tests
 pub link_tests_refused : (limits : Limits) (now : Option Time) (v : Volume) (table : ℕ → Option Description) (old path : List ℕ) (errno : Errno) → first_refusal (text_tests limits old ++ new_text_tests limits path) ≡ Some errno

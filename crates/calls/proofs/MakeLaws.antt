@@ -42,9 +42,9 @@ use Rattle.calls.proofs.ReachLaws.{new_text_well}
 
 -- what is made isn't swept: it has a name
 new_stays : (what : Made) (open_now : Bool) → swept_node open_now (Some (node_of what)) ≡ Some (node_of what)
-new_stays (file mode) open_now = refl
-new_stays (directory mode) open_now = refl
-new_stays (symbolic_link text) open_now = refl
+new_stays (file permissions) open_now = refl
+new_stays (directory permissions) open_now = refl
+new_stays (symbolic_link permissions text) open_now = refl
 
 -- a volume with a new object has no more to sweep
 module _ (table : ℕ → Option Description) (v : Volume) (n d : ℕ) (x : Name) (what : Made) (parent : is_directory_node (v d) ≡ true) (apart : d ≡ n → ⊥) (is_swept : (k : ℕ) → swept table v k ≡ v k) where

@@ -5,6 +5,7 @@ use Rattle.std.proofs.Math.Path.{fun_ext}
 use Rattle.std.proofs.lemmas.Bool.{cases_Bool, cond-true, cond-false, eqb-true, false≢true, not-true, not-false}
 use Rattle.model.specs.declared.limits.Limits.{Limits}
 use Rattle.model.specs.declared.attributes.Attributes.{Attributes}
+use Rattle.model.specs.declared.attributes.Permissions.{Permissions}
 use Rattle.model.specs.Attributes.{KeepsTime, new_attributes, no_attributes}
 use Rattle.model.specs.Changes.{ChangesTree}
 use Rattle.model.specs.Changing.{entered, is_idle_size, need_of_truncate, truncated_to}
@@ -37,7 +38,7 @@ use Rattle.model.proofs.SweepLemmas.{not_unused}
 use Rattle.paths.specs.Starts.{Reaches}
 use Rattle.paths.specs.Steps.{found_in}
 use Rattle.paths.specs.declared.lookup.Found.TheVariants as found
-use Rattle.calls.specs.Changing.{change_by, said_by}
+use Rattle.calls.specs.Changing.{said_by}
 use Rattle.calls.specs.Leading.{LeadsAlong}
 use Rattle.calls.specs.Making.{CreatesNumber, IsLeastFree, MakesIn}
 use Rattle.calls.specs.Open.{IsOpened, IsOpenedOver, Opening, OpensAt, OpensByRecord, OpensMade, OpensNew, OpensOver, opened_reply, opened_tree, opens_along}
@@ -95,7 +96,7 @@ module _ (limits : Limits) (v : Volume) (table : ℕ → Option Description) (li
 
 -- ---- where a path leads
 
-module _ (limits : Limits) (now : Option Time) (v : Volume) (table : ℕ → Option Description) (text : List ℕ) (flags : Flags) (mode : ℕ) where
+module _ (limits : Limits) (now : Option Time) (v : Volume) (table : ℕ → Option Description) (text : List ℕ) (flags : Flags) (permissions : Permissions) where
   abbrev t : Tree
   t = tree_of v table
 
@@ -103,13 +104,13 @@ module _ (limits : Limits) (now : Option Time) (v : Volume) (table : ℕ → Opt
   follow = not (flags.creates && flags.exclusive)
 
   abbrev along : Opening
-  along = opens_along limits now t text flags mode
+  along = opens_along limits now t text flags permissions
 
   abbrev there : Bool → ℕ → Path → Object → Outcome
   there tells fd p o = opens_object tells now t o flags fd
 
   abbrev gone : Bool → ℕ → Path → Name → Outcome
-  gone tells fd p name = opens_new tells limits now t p name flags mode fd
+  gone tells fd p name = opens_new tells limits now t p name flags permissions fd
 
   pub along_nowhere : (errno : Errno) (r : Resolution) → Reaches t follow text r → IsPlaceAt v (at_refusal errno) r → (tells : Bool) (fd : ℕ) → along tells fd (Refused errno) t nothing
   along_nowhere errno r reaches is tells fd =
@@ -309,13 +310,13 @@ module _ (limits : Limits) (now : Option Time) (v : Volume) (table : ℕ → Opt
   old = tree_of v table
 
   module _ (d : ℕ) (x : Name) (r : Resolution) (gap : FindsGap limits v table volume mounted tree_is r d x) where
-    module _ (fresh_law : VolumesTellFresh) (change_law : RecordsChangeTrees) (keeps : KeepsTime limits.has_attributes now) (flags : Flags) (mode : ℕ) where
+    module _ (fresh_law : VolumesTellFresh) (change_law : RecordsChangeTrees) (keeps : KeepsTime limits.has_attributes now) (flags : Flags) (permissions : Permissions) where
       abbrev outcome : Opening
-      outcome tells = opens_new tells limits now old gap.path x flags mode
+      outcome tells = opens_new tells limits now old gap.path x flags permissions
 
       -- the tree with the file
       abbrev with_new : ℕ → Tree
-      with_new n = entered now Data n gap.path old (with_file (gap.path ++ x ∷ []) n mode old)
+      with_new n = entered now Data n gap.path old (with_file (gap.path ++ x ∷ []) n permissions old)
 
       abbrev fresh : Bool → ℕ → Outcome
       fresh tells fd = with_fresh limits old (λ n. opens_file tells n flags fd (with_new n) (logs adds_name))
@@ -339,7 +340,7 @@ module _ (limits : Limits) (now : Option Time) (v : Volume) (table : ℕ → Opt
         all_used taken k low below =
             not_unused v volume.graph table mounted.bounded k (λ none. false≢true (sym (ap is_some (sym (mounted.is_swept k) ∙ none)) ∙ taken k low below))
 
-        pub new_refused : (errno : Errno) → MakesIn limits now v d x (file mode) (Err errno) → (tells : Bool) (fd : ℕ) → outcome tells fd (Refused errno) old nothing
+        pub new_refused : (errno : Errno) → MakesIn limits now v d x (file permissions) (Err errno) → (tells : Bool) (fd : ℕ) → outcome tells fd (Refused errno) old nothing
         new_refused errno (inl (is, not)) tells fd =
             subst (λ (e : Errno). outcome tells fd (Refused e) old nothing) (sym is)
             (past_tests tells fd (Refused DIRFULL) old nothing (place_full limits v table volume mounted tree_is d x r gap (fresh tells fd) not))
@@ -347,9 +348,9 @@ module _ (limits : Limits) (now : Option Time) (v : Volume) (table : ℕ → Opt
             subst (λ (e : Errno). outcome tells fd (Refused e) old nothing) (sym is)
             (with_room can tells fd (Refused NONUMBER) old nothing (None, all_used none, (refl, refl, refl)))
 
-        module _ (n : ℕ) (good : IsMade limits (file mode)) (can : TakesName limits v d x) (free : IsLeastFree limits.inodes v n) where
+        module _ (n : ℕ) (good : IsMade limits (file permissions)) (can : TakesName limits v d x) (free : IsLeastFree limits.inodes v n) where
           abbrev change : Change
-          change = stamped now (create n d (file mode) x)
+          change = stamped now (create n d (file permissions) x)
 
           abbrev made : Volume
           made = applied change v
@@ -370,7 +371,7 @@ module _ (limits : Limits) (now : Option Time) (v : Volume) (table : ℕ → Opt
           apart same = false≢true (sym (ap is_directory_node free.free) ∙ subst (λ (k : ℕ). is_directory_node (v k) ≡ true) same gap.parent)
 
           unswept : swept table made ≡ made
-          unswept = created_unswept table v n d x (file mode) gap.parent apart mounted.is_swept now
+          unswept = created_unswept table v n d x (file permissions) gap.parent apart mounted.is_swept now
 
           changed : IsMounted (swept table made) table × ChangesTree change old (tree_of (swept table made) table)
           changed = change_law limits v table change volume mounted applies free.free
@@ -381,22 +382,22 @@ module _ (limits : Limits) (now : Option Time) (v : Volume) (table : ℕ → Opt
               let there = gap_parent limits v table volume mounted tree_is d x r gap in
               let same : p ≡ gap.path =
               elim (tree_is.single p gap.path (trees.directory d) (trees.directory d) stands there refl) [ inl e ↦ e | inr other ↦ no_file other.0 ] in
-              becomes ∙ ap (λ (q : Path). marked now (touches_entry Data (Some n) (Some d)) (with_file (q ++ x ∷ []) n mode old)) same
-              ∙ entered_here now Data n d gap.path old (with_file (gap.path ++ x ∷ []) n mode old) there
+              becomes ∙ ap (λ (q : Path). marked now (touches_entry Data (Some n) (Some d)) (with_file (q ++ x ∷ []) n permissions old)) same
+              ∙ entered_here now Data n d gap.path old (with_file (gap.path ++ x ∷ []) n permissions old) there
             where
               no_file : {X : Type 0} → trees.directory d ≡ trees.file d → X
               no_file e = cc
 
-          is_made : IsFileWith mode 1 [] (swept table made n)
+          is_made : IsFileWith permissions.mode 1 [] (swept table made n)
           is_made =
-              let between = with_node n (Some (node_of (file mode))) v in
-              let bare : IsFileWith mode 1 [] (created n d x (node_of (file mode)) v n) = record {
-                attributes = new_attributes mode;
-                is = node_other d n (set_name x (Some n) (between d)) between (λ same. apart (sym same)) ∙ node_here n n (Some (node_of (file mode))) v refl;
+              let between = with_node n (Some (node_of (file permissions))) v in
+              let bare : IsFileWith permissions.mode 1 [] (created n d x (node_of (file permissions)) v n) = record {
+                attributes = new_attributes permissions;
+                is = node_other d n (set_name x (Some n) (between d)) between (λ same. apart (sym same)) ∙ node_here n n (Some (node_of (file permissions))) v refl;
                 mode_is = refl;
               } in
-              subst (λ (w : Volume). IsFileWith mode 1 [] (w n)) (sym unswept)
-              (marked_file now (touches_entry Data (Some n) (Some d)) (created n d x (node_of (file mode)) v) n mode 1 [] bare)
+              subst (λ (w : Volume). IsFileWith permissions.mode 1 [] (w n)) (sym unswept)
+              (marked_file now (touches_entry Data (Some n) (Some d)) (created n d x (node_of (file permissions)) v) n permissions.mode 1 [] bare)
 
           -- it is opened over the tree that it leaves
           opens_made : VolumesTellLinks → RecordsKeepVolumes → SweepsKeepVolumes → (o : Opened) → o.number ≡ n → IsOpened (swept table made) o
@@ -413,7 +414,7 @@ module _ (limits : Limits) (now : Option Time) (v : Volume) (table : ℕ → Opt
               )
 
         module _ (links_law : VolumesTellLinks) (keep_law : RecordsKeepVolumes) (sweep_law : SweepsKeepVolumes) where
-          pub new_made : (o : Opened) (changing : Option Changing) → OpensMade limits now v mode d x o changing → OpensOver outcome limits flags v table o changing
+          pub new_made : (o : Opened) (changing : Option Changing) → OpensMade limits now v permissions d x o changing → OpensOver outcome limits flags v table o changing
           new_made o None is = absurd is
           new_made o (Some c) ((n, says, good, can, free), told, one, own, empty) =
               let same : n ≡ o.number = same_number (ap (λ (h : Change). h.edit) (sym says ∙ told)) in
@@ -429,15 +430,15 @@ module _ (limits : Limits) (now : Option Time) (v : Volume) (table : ℕ → Opt
               (applies n good can free, (changed n good can free).0, is, opens_made n good can free links_law keep_law sweep_law o (sym same) is)
 
       module _ (links_law : VolumesTellLinks) (keep_law : RecordsKeepVolumes) (sweep_law : SweepsKeepVolumes) where
-        pub new_opens : (told : Result Opened Errno) → OpensNew limits now v flags mode d x told → OpensAt outcome limits flags v table told
+        pub new_opens : (told : Result Opened Errno) → OpensNew limits now v flags permissions d x told → OpensAt outcome limits flags v table told
         new_opens (Err errno) (inl (none, is)) = λ tells fd. subst (λ (e : Errno). outcome tells fd (Refused e) old nothing) (sym is) (none_made none tells fd)
         new_opens (Err errno) (inr (does, told)) = new_refused does errno told
         new_opens (Ok o) (does, told) = new_made does links_law keep_law sweep_law o o.changing told
 
         -- what opening comes to where a path leads to that name
-        pub along_gap : (text : List ℕ) → Reaches old (not (flags.creates && flags.exclusive)) text r → (told : Result Opened Errno) → OpensNew limits now v flags mode d x told
-            → OpensAt (opens_along limits now old text flags mode) limits flags v table told
+        pub along_gap : (text : List ℕ) → Reaches old (not (flags.creates && flags.exclusive)) text r → (told : Result Opened Errno) → OpensNew limits now v flags permissions d x told
+            → OpensAt (opens_along limits now old text flags permissions) limits flags v table told
         along_gap text reaches told made =
-            opens_more limits flags v table outcome (opens_along limits now old text flags mode) (λ tells fd reply new need done.
-            along_reached old (not (flags.creates && flags.exclusive)) text (there limits now v table text flags mode tells fd) (gone limits now v table text flags mode tells fd) reply new need r reaches
-            (subst (λ (q : Resolution). leads old q (there limits now v table text flags mode tells fd) (gone limits now v table text flags mode tells fd) reply new need) (sym gap.is) done)) told (new_opens told made)
+            opens_more limits flags v table outcome (opens_along limits now old text flags permissions) (λ tells fd reply new need done.
+            along_reached old (not (flags.creates && flags.exclusive)) text (there limits now v table text flags permissions tells fd) (gone limits now v table text flags permissions tells fd) reply new need r reaches
+            (subst (λ (q : Resolution). leads old q (there limits now v table text flags permissions tells fd) (gone limits now v table text flags permissions tells fd) reply new need) (sym gap.is) done)) told (new_opens told made)

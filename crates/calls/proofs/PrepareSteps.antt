@@ -1,10 +1,11 @@
 -- Functions that prepare the change of a call, step by step.
-use Rattle.std.proofs.Common.{◌≡◌, ℕ, Bool, List, Option, Some, Result, Ok, Err, IfErr, IfOk, IfSome, IsTrue, ap, refl, sym, subst}
+use Rattle.std.proofs.Common.{◌≡◌, ℕ, Bool, List, Option, Some, Result, Ok, Err, IfErr, IfOk, IfSome, IsTrue, ap, is_some, refl, sym, subst}
 use Rattle.std.specs.Result.{IsErrAnd}
 use Rattle.std.proofs.lemmas.Result.{IfOk-weaker}
 use Rattle.model.specs.declared.limits.Limits.{Limits}
 use Rattle.layout.specs.StateLimits.{limits_of}
 use Rattle.layout.specs.Limits.{Sizes}
+use Rattle.layout.specs.Record.{FitsAttributes}
 use Rattle.layout.specs.declared.inode.Inode.{Inode}
 use Rattle.model.specs.Records.{Applies, Change, stamped}
 use Rattle.model.specs.Trees.{Description, Tree}
@@ -30,7 +31,7 @@ use Rattle.records.specs.declared.failure.Failure.TheVariants.{Read, Refused}
 use Rattle.records.specs.declared.prepared.Prepared.{Prepared}
 use Rattle.calls.specs.Changing.{change_by, said_by}
 use Rattle.calls.specs.Leading.{TellsWhere}
-use Rattle.calls.specs.Preparing.{Answer, PreparesAny, PreparesKnowing, PreparesWith}
+use Rattle.calls.specs.Preparing.{Answer, IsTimed, Prepares, PreparesAny, PreparesKnowing, PreparesWith}
 use Rattle.calls.specs.Refusals.{is_path_refusal}
 use Rattle.calls.specs.declared.changed.Changing.{Changing}
 use Rattle.calls.specs.declared.changed.OwnedChange.{OwnedChange}
@@ -61,7 +62,7 @@ module _ {B T : Type 0} {changes : T → Option Changing} {now : Option Time} {G
 
   -- the call isn't refused
   pub grants : {X : Type 0} {x : X} {y : T} → Looks {T = X} {E = BlockError} G IsFault a b s t (Ok x) → IfSome (changes y) (λ c. IsReady t c.prepared)
-      → IfSome (changes y) (λ c. c.time ≡ now) → OnVolumes G a s (λ disk settled v. IfSome (changes y) (λ c. Does disk settled t v c.prepared (change_by c)))
+      → IfSome (changes y) (λ c. IsTimed now (change_by c)) → OnVolumes G a s (λ disk settled v. IfSome (changes y) (λ c. Does disk settled t v c.prepared (change_by c)))
       → OnMounted G a s (λ v table. P (limits_of s.geometry) v table (Ok y)) → PreparesWith changes now G a b s t P (Ok y)
   grants looks ready timed does answers = record {
     looks = looks_ok looks;
@@ -94,6 +95,17 @@ module _ {B T : Type 0} {changes : T → Option Changing} {now : Option Time} {G
       carried (PreparesWith changes now G a b s t P) q is
       (refuses looks own (λ disk settled v table stands volume mounted. answers disk settled v table stands volume mounted errno refl))
   fails (Read e) q is looks own sound answers = stops q is looks sound
+
+  -- another function that prepares has failed, and so does this one
+  pub fails_as : {U : Type 0} {others : U → Option Changing} {Q : Answer U} (f : Failure) (q : Result T Failure) → IsErrAnd q (λ g. g ≡ f)
+      → PreparesWith others now G a b s t Q (Err f)
+      → OnMounted G a s (λ v table. (errno : Errno) → Q (limits_of s.geometry) v table (Err errno) → P (limits_of s.geometry) v table (Err errno))
+      → PreparesWith changes now G a b s t P q
+  fails_as (Refused errno) q is failed answers =
+      carried (PreparesWith changes now G a b s t P) q is
+      (refuses failed.looks failed.own (λ disk settled v table stands volume mounted.
+      answers disk settled v table stands volume mounted errno (failed.answers disk settled v table stands volume mounted)))
+  fails_as (Read e) q is failed answers = stops q is failed.looks failed.damaged
 
   -- the same where that call is refused by one errno alone
   pub fails_by : {X : Type 0} (code : Errno) → IsTrue (is_path_refusal code) → (f : Failure) (q : Result T Failure) → IsErrAnd q (λ g. g ≡ f)
@@ -159,6 +171,20 @@ module _ {B T : Type 0} {changes : T → Option Changing} {now : Option Time} {G
     damaged = all.damaged;
   }
 
+-- a call that may find nothing to change has what another function prepares
+pub changes_as : {B : Type 0} {now : Option Time} {G : Ghosts B} {a b : B} {s t : InodeFile} {P : Answer (Option Changing)} {Q : Answer Changing} {c : Changing} → Prepares now G a b s t Q (Ok c)
+    → OnMounted G a s (λ v table. Q (limits_of s.geometry) v table (Ok c) → P (limits_of s.geometry) v table (Ok (Some c)))
+    → PreparesAny now G a b s t P (Ok (Some c))
+changes_as all leads = record {
+  looks = looks_ok all.looks;
+  own = tt;
+  ready = all.ready;
+  timed = all.timed;
+  does = all.does;
+  answers = λ disk settled v table stands volume mounted. leads disk settled v table stands volume mounted (all.answers disk settled v table stands volume mounted);
+  damaged = λ disk settled v stands is. cc;
+}
+
 -- a part of a call, where so much is known of a volume
 module _ {B : Type 0} {Known : Volume → Type 0} {now : Option Time} {G : Ghosts B} {a b : B} {s t : InodeFile} {P : Answer (Option Changing)} where
   -- what is prepared whatever is known
@@ -187,7 +213,7 @@ module _ {B : Type 0} {Known : Volume → Type 0} {now : Option Time} {G : Ghost
   }
 
   -- what a record decides is the answer
-  pub granted_knowing : {Over Sure : Premise} {change : Change} (c : Changing) → DecidesOn Over Sure G a b s t change (Ok c.prepared) → change_by c ≡ change → c.time ≡ now
+  pub granted_knowing : {Over Sure : Premise} {change : Change} (c : Changing) → DecidesOn Over Sure G a b s t change (Ok c.prepared) → change_by c ≡ change → IsTimed now (change_by c)
       → OnVolumes G a s (λ disk settled v. Known v → Over by_bytes disk settled v)
       → ((disk : ℕ → List ℕ) (settled : ℕ → Inode) (v : Volume) (table : ℕ → Option Description) → Stands G disk settled v a s → IsVolume (limits_of s.geometry) v → Known v
       → (Sure by_bytes disk settled v → Applies (limits_of s.geometry) v change) → P (limits_of s.geometry) v table (Ok (Some c)))
@@ -225,14 +251,14 @@ follows_knowing {Q = Q} {r = r} looks then knows leads = record {
 module _ {B T : Type 0} {changes : T → Option Changing} {now : Option Time} {G : Ghosts B} {a b : B} {s t : InodeFile} {P : Answer T} {Over Sure : Premise} {change : Change} where
   -- it is prepared
   pub granted : {p : Prepared} {y : T} {owned : OwnedChange} → DecidesOn Over Sure G a b s t change (Ok p) → changes y ≡ Some (record { time = now; change = owned; prepared = p })
-      → stamped now (said_by owned) ≡ change → OnVolumes G a s (Over by_bytes)
+      → stamped now (said_by owned) ≡ change → FitsAttributes (is_some now) (said_by owned) → OnVolumes G a s (Over by_bytes)
       → ((disk : ℕ → List ℕ) (settled : ℕ → Inode) (v : Volume) (table : ℕ → Option Description) → Stands G disk settled v a s → IsVolume (limits_of s.geometry) v
       → (Sure by_bytes disk settled v → Applies (limits_of s.geometry) v change) → P (limits_of s.geometry) v table (Ok y))
       → PreparesWith changes now G a b s t P (Ok y)
-  granted {p = p} decides same says over answers =
+  granted {p = p} decides same says fits over answers =
       grants decides.looks
       (subst (λ o. IfSome o (λ c. IsReady t c.prepared)) (sym same) decides.ready)
-      (subst (λ o. IfSome o (λ c. c.time ≡ now)) (sym same) refl)
+      (subst (λ o. IfSome o (λ c. IsTimed now (change_by c))) (sym same) (refl, fits))
       (λ disk settled v stands.
       subst (λ o. IfSome o (λ c. Does disk settled t v c.prepared (change_by c))) (sym same)
       (subst (Does disk settled t v p) (sym says) (decides.does {detail = by_bytes} disk settled v (over disk settled v stands))))

@@ -1,10 +1,9 @@
 -- Where texts lead that passed their tests.
-use Rattle.std.proofs.Common.{◌≡◌, ◌≢◌, inl, inr, ℕ, Bool, true, false, ◌&&◌, ◌||◌, List, [], ◌∷◌, Option, Some, None, is_some, drop, refl, sym, ap, subst, ◌∙◌}
-use Rattle.std.specs.Prelude.{if◌then◌else◌}
-use Rattle.std.proofs.lemmas.Bool.{cases_Bool, cond-true, false≢true}
+use Rattle.std.proofs.Common.{◌≡◌, inl, inr, ℕ, Bool, true, false, ◌||◌, List, [], ◌∷◌, Option, Some, None, is_some, refl, sym, ap, subst}
+use Rattle.std.proofs.lemmas.Bool.{cases_Bool, cond-true}
 use Rattle.model.specs.declared.limits.Limits.{Limits}
 use Rattle.model.specs.Finding.{IsPlaceAt}
-use Rattle.model.specs.Paths.{Name, Tests, first_refusal, is_dot, is_dot_dot, is_number_alone, last_part, new_text_tests, parts_behind, start_number, starts_with_slash, text_tests_then}
+use Rattle.model.specs.Paths.{Tests, first_refusal, is_dot, is_dot_dot, is_number_alone, last_part, new_text_tests, parts_behind, start_number, starts_with_slash, text_tests_then}
 use Rattle.model.specs.Resolution.{Resolution, resolve}
 use Rattle.model.specs.Trees.{IsTree, Tree}
 use Rattle.model.specs.Volumes.{Volume}

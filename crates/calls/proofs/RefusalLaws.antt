@@ -4,7 +4,7 @@ use Rattle.std.proofs.lemmas.Bool.{cases_Bool, cond-true, cond-false, false≢tr
 use Rattle.model.specs.declared.limits.Limits.{Limits}
 use Rattle.model.specs.Changing.{given_size_tests, link_text_tests, size_tests}
 use Rattle.model.specs.Paths.{Tests, first_refusal, text_tests, new_text_tests}
-use Rattle.model.specs.Records.{Change, Edit, change_mode, set_file, create, truncate, link, rename, remove_name, write}
+use Rattle.model.specs.Records.{Change, Edit, change_attributes, set_file, create, truncate, link, rename, remove_name, write}
 use Rattle.model.specs.declared.errno.Errno.{Errno}
 use Rattle.model.specs.declared.errno.Errno.TheVariants.{ENOENT, ENOTDIR, ENAMETOOLONG, ELOOP, ESTALE, DAMAGED}
 use Rattle.model.proofs.LooseLemmas.{some_same}
@@ -59,7 +59,7 @@ edit_own (remove_name d x) e is = is
 edit_own (rename d x k y) e is = is
 edit_own (write n offset bytes) e is = is
 edit_own (truncate n size) e is = is
-edit_own (change_mode n mode) e is = is
+edit_own (change_attributes n permissions modified) e is = is
 edit_own (set_file n mode size) e is = is
 
 pub obstacle_own : (change : Change) (e : Errno) → IsTrue (tells_obstacle change e) → IsTrue (is_path_refusal e)

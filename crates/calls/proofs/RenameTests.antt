@@ -5,7 +5,7 @@ use Rattle.std.proofs.lemmas.Grind.{get_or_default_zero}
 use Rattle.std.proofs.lemmas.List.{get_or-take, take-append-drop}
 use Rattle.std.proofs.lemmas.List.Sums.{fold-append}
 use Rattle.model.specs.Finding.{Trails, here}
-use Rattle.model.specs.Paths.{Name, Path}
+use Rattle.model.specs.Paths.{Path}
 use Rattle.model.specs.Records.{IsBelow}
 use Rattle.model.specs.Volumes.{Volume, enter, entries, is_directory_node, number_at}
 use Rattle.model.proofs.OptionLaws.{none_some, some_same}

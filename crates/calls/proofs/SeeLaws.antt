@@ -9,7 +9,7 @@ use Rattle.model.specs.Edits.{attributes_at, contents, read_at}
 use Rattle.model.specs.Entries.{TellsEntries, TellsEntry, with_part}
 use Rattle.model.specs.Outcomes.{Outcome, answers, either, goes_to, leads_from, leads_to, refuses, tested, with_names, with_number, HasLinks, IsListing}
 use Rattle.model.specs.Paths.{Name, Path, Tests, first_refusal, is_empty, parts, parts_behind, start_number, text_tests, text_tests_then}
-use Rattle.model.specs.Reading.{is_negative, is_too_many, tells_stat}
+use Rattle.model.specs.Reading.{attribute_tests, is_negative, is_too_many, tells_attributes, tells_stat}
 use Rattle.model.specs.Resolution.{Next, Resolution, Stop, absent, at, at_link, go_on, into, link, missing, named, next, over, refused, resolve, resolve_within, too_long, walk}
 use Rattle.model.specs.Room.{nothing}
 use Rattle.model.specs.States.{ForgetsOpenFiles}
@@ -21,6 +21,8 @@ use Rattle.model.specs.declared.errno.Errno.{Errno}
 use Rattle.model.specs.declared.errno.Errno.TheVariants.{EINVAL, EISDIR, ELOOP, ENAMETOOLONG, ENOENT, ENOTDIR, ESTALE}
 use Rattle.model.specs.declared.limits.TheConstants.{ENTRIES_TOLD, LINKS_FOLLOWED}
 use Rattle.model.specs.declared.reply.Reply.{Reply}
+use Rattle.model.specs.declared.reply.Stat as figures
+use Rattle.model.specs.declared.reply.Reply.TheVariants as replies
 use Rattle.model.specs.declared.reply.Reply.TheVariants.{Data, Entries, Names, Stat, Text}
 use Rattle.model.specs.declared.reply.FileType.TheVariants.{Dir, File}
 use Rattle.calls.specs.Seeing.{ReadingForgets}
@@ -84,6 +86,9 @@ linked t p o = elim o as (λ _. Outcome) [
 
 abbrev told_of : Tree → Path → Object → Outcome
 told_of t p o = tells_stat t o
+
+abbrev attributed : Tree → Path → Object → Outcome
+attributed t p o = tells_attributes t o
 
 abbrev got : ℕ → ℕ → Tree → Path → Object → Outcome
 got offset count t p o = elim o as (λ _. Outcome) [
@@ -226,6 +231,21 @@ module _ (old new : Tree) (forgets : ForgetsOpenFiles old new) where
     stats_same : (p : Path) (o : Object) → StandsIn o → Sees (told_of old p o) (told_of new p o)
     stats_same p o stands (count, has, told) = (count, has_links o count has, (told.0 ∙ ap Stat (same_stat o count stands), refl, refl))
 
+    same_attributes : (o : Object) → StandsIn o → attributes_at old (number_of_object o) ≡ attributes_at new (number_of_object o)
+    same_attributes o (p, is) = ap (λ (m : Option Attributes). unwrap_or m no_attributes) (sym (forgets.kept (number_of_object o) (p, o, is, refl)).1)
+
+    attributes_same : (p : Path) (o : Object) → StandsIn o → Sees (attributed old p o) (attributed new p o)
+    attributes_same p o stands (count, has, told) = (
+      count,
+      has_links o count has,
+      (
+        told.0 ∙ ap (λ (s : figures.Stat). replies.Attributes s (attributes_at old (number_of_object o))) (same_stat o count stands)
+            ∙ ap (replies.Attributes (stat_of new o count)) (same_attributes o stands),
+        refl,
+        refl,
+      ),
+    )
+
     same_entry : (p : Path) (x : Name) (e : Entry) → TellsEntry old p x e → TellsEntry new p x e
     same_entry p x e tells = record {
       name = tells.name;
@@ -259,28 +279,32 @@ no_reading : {X : Type 0} → IsTrue false → X
 no_reading is = absurd (false≢true is)
 
 pub reading_forgets : ReadingForgets
-reading_forgets limits now old new (call.List path) reply forgets reading told =
+reading_forgets limits said old new (call.List path) reply forgets reading told =
     led_same old new forgets reply (listed old) (listed new) (lists_same old new forgets reply) true (text_tests limits path) path told
-reading_forgets limits now old new (call.Entries path behind count) reply forgets reading told =
+reading_forgets limits said old new (call.Entries path behind count) reply forgets reading told =
     led_same old new forgets reply (told_in_part (nat_abs behind) count old) (told_in_part (nat_abs behind) count new) (parts_same old new forgets reply (nat_abs behind) count) true
     (text_tests_then limits ((is_negative behind || count == 0 || nat_lt ENTRIES_TOLD count, EINVAL) ∷ []) path) path told
-reading_forgets limits now old new (call.Stat path) reply forgets reading told =
+reading_forgets limits said old new (call.Stat path) reply forgets reading told =
     led_same old new forgets reply (told_of old) (told_of new) (stats_same old new forgets reply) true (text_tests limits path) path told
-reading_forgets limits now old new (call.Lstat path) reply forgets reading told =
+reading_forgets limits said old new (call.Lstat path) reply forgets reading told =
     led_same old new forgets reply (told_of old) (told_of new) (stats_same old new forgets reply) false (text_tests limits path) path told
-reading_forgets limits now old new (call.Readlink path) reply forgets reading told =
+reading_forgets limits said old new (call.Attr path follow) reply forgets reading told =
+    led_same old new forgets reply (attributed old) (attributed new) (attributes_same old new forgets reply) follow (attribute_tests limits ++ text_tests limits path) path told
+reading_forgets limits said old new (call.Readlink path) reply forgets reading told =
     led_same old new forgets reply (linked old) (linked new) (links_same old new forgets reply) false (text_tests limits path) path told
-reading_forgets limits now old new (call.Get path offset count) reply forgets reading told =
+reading_forgets limits said old new (call.Get path offset count) reply forgets reading told =
     led_same old new forgets reply (got (nat_abs offset) count old) (got (nat_abs offset) count new) (gets_same old new forgets reply (nat_abs offset) count) true
     (text_tests_then limits ((is_negative offset || is_too_many count, EINVAL) ∷ []) path) path told
-reading_forgets limits now old new (call.Mkdir path mode) reply forgets reading told = no_reading reading
-reading_forgets limits now old new (call.Rmdir path) reply forgets reading told = no_reading reading
-reading_forgets limits now old new (call.Unlink path) reply forgets reading told = no_reading reading
-reading_forgets limits now old new (call.Link from path) reply forgets reading told = no_reading reading
-reading_forgets limits now old new (call.Symlink text path) reply forgets reading told = no_reading reading
-reading_forgets limits now old new (call.Rename from path) reply forgets reading told = no_reading reading
-reading_forgets limits now old new (call.RenameNew from path) reply forgets reading told = no_reading reading
-reading_forgets limits now old new (call.Chmod path mode) reply forgets reading told = no_reading reading
-reading_forgets limits now old new (call.Truncate path size) reply forgets reading told = no_reading reading
-reading_forgets limits now old new (call.Store path offset bytes) reply forgets reading told = no_reading reading
-reading_forgets limits now old new (call.Set path settings) reply forgets reading told = no_reading reading
+reading_forgets limits said old new (call.Mkdir path mode) reply forgets reading told = no_reading reading
+reading_forgets limits said old new (call.Rmdir path) reply forgets reading told = no_reading reading
+reading_forgets limits said old new (call.Unlink path) reply forgets reading told = no_reading reading
+reading_forgets limits said old new (call.Link from path) reply forgets reading told = no_reading reading
+reading_forgets limits said old new (call.Symlink text path) reply forgets reading told = no_reading reading
+reading_forgets limits said old new (call.Rename from path) reply forgets reading told = no_reading reading
+reading_forgets limits said old new (call.RenameNew from path) reply forgets reading told = no_reading reading
+reading_forgets limits said old new (call.Chmod path mode) reply forgets reading told = no_reading reading
+reading_forgets limits said old new (call.Chown path follow owner group) reply forgets reading told = no_reading reading
+reading_forgets limits said old new (call.Utimens path follow time) reply forgets reading told = no_reading reading
+reading_forgets limits said old new (call.Truncate path size) reply forgets reading told = no_reading reading
+reading_forgets limits said old new (call.Store path offset bytes) reply forgets reading told = no_reading reading
+reading_forgets limits said old new (call.Set path settings) reply forgets reading told = no_reading reading

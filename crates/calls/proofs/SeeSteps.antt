@@ -55,6 +55,12 @@ module _ {B T : Type 0} {G : Ghosts B} {a b : B} {s t : InodeFile} {P : Volume �
     damaged = never_damaged e sound;
   })
 
+module _ {B T U : Type 0} {G : Ghosts B} {a b : B} {s t : InodeFile} {P : Volume → Result T Errno → Type 0} {Q : Volume → Result U Errno → Type 0} where
+  -- what wasn't told isn't told of more
+  pub tells_no_more : (f : Failure) (q : Result U Failure) → IsErrAnd q (λ g. g ≡ f) → Tells G a b s t P (Err f) → ((v : Volume) (errno : Errno) → P v (Err errno) → Q v (Err errno)) → Tells G a b s t Q q
+  tells_no_more (Refused errno) q is told leads = carried (Tells G a b s t Q) q is (tells_refusal told.looks told.own (λ disk settled v stands. leads v errno (told.tells disk settled v stands)))
+  tells_no_more (Read e) q is told leads = tells_none q is told.looks told.damaged
+
 module _ {B T : Type 0} {G : Ghosts B} {a b : B} {s t : InodeFile} {outcome : Limits → Tree → Outcome} {reply : Result T Errno → Reply} where
   -- the call is refused by an errno
   pub refuses : {X : Type 0} {x : X} {e : Errno} → Looks {T = X} {E = BlockError} G IsFault a b s t (Ok x) → IsTrue (is_path_refusal e)

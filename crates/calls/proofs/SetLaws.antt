@@ -1,36 +1,30 @@
 -- What the definitions say of giving a mode and a size, by what was found in a volume.
-use Rattle.std.proofs.Common.{◌≡◌, ◌≢◌, ◌∙◌, ◌||◌, inl, inr, ℕ, ℤ, nat_abs, List, Bool, true, false, length, Option, Some, None, IsSome, Result, Ok, Err, IsTrue, refl, sym, ap, subst}
+use Rattle.std.proofs.Common.{◌≡◌, ◌≢◌, ◌||◌, ℕ, List, Bool, true, Option, Some, None, IsSome, Result, Ok, Err, IsTrue, refl, sym, ap, subst}
 use Rattle.std.specs.Result.{IsOkAnd}
 use Rattle.std.proofs.Math.Path.{fun_ext}
 use Rattle.std.proofs.lemmas.Bool.{false≢true}
 use Rattle.model.specs.declared.limits.Limits.{Limits}
 use Rattle.model.specs.Changing.{given_size_tests, is_idle_size, sets, sets_both, sets_mode, sets_object, truncates_file}
-use Rattle.model.specs.Laws.{RecordsChangeTrees}
-use Rattle.model.specs.Outcomes.{Outcome, changes}
+use Rattle.model.specs.Outcomes.{Outcome}
 use Rattle.model.specs.Paths.{Path, Tests, first_refusal, text_tests_then}
-use Rattle.model.specs.Records.{Change, Applies, applied, change_mode, set_file, stamped, truncate, work_of}
-use Rattle.model.specs.Room.{Need, logs, nothing, changes_bits}
+use Rattle.model.specs.Records.{Change, applied, set_file, stamped, truncate, work_of}
+use Rattle.model.specs.Room.{logs, nothing}
 use Rattle.model.specs.Trees.{Tree, Object, Description}
 use Rattle.model.specs.Trees as trees
-use Rattle.model.specs.Volumes.{IsMounted, IsVolume, Node, directory_node, file_node, link_node, Volume, is_directory_node, is_file_node, object_of, swept, tree_of}
+use Rattle.model.specs.Volumes.{IsMounted, Node, directory_node, file_node, link_node, Volume, is_directory_node, is_file_node, object_of, swept, tree_of}
 use Rattle.model.specs.declared.command.Settings.{Settings}
 use Rattle.model.specs.declared.errno.Errno.{Errno}
-use Rattle.model.specs.declared.errno.Errno.TheVariants.{DAMAGED}
-use Rattle.model.specs.declared.reply.Reply.{Reply}
 use Rattle.model.specs.declared.reply.Reply.TheVariants.{Done, Refused}
 use Rattle.model.specs.declared.time.Time.{Time}
 use Rattle.model.proofs.LooseLemmas.{some_same}
 use Rattle.paths.specs.Steps.{found_in}
 use Rattle.paths.specs.declared.lookup.Found.TheVariants as found
-use Rattle.records.specs.Obstacles.{IsObstacle}
 use Rattle.records.specs.Rewriting.{GoesOver, SetsBoth}
 use Rattle.calls.specs.Leading.{IsLed}
-use Rattle.calls.specs.Changing.{ComesBy, ComesOrStays, ComesSweptBy, change_by}
+use Rattle.calls.specs.Changing.{ComesOrStays, ComesSweptBy, change_by}
 use Rattle.calls.specs.Truncate.{TruncatesFile}
 use Rattle.calls.specs.declared.changed.Changing.{Changing}
 use Rattle.calls.proofs.LeadLaws.{led_refused, led_some, led_there}
-use Rattle.calls.proofs.ModeLaws.{mode_changed}
-use Rattle.calls.proofs.SweptLaws.{comes_swept}
 use Rattle.calls.proofs.TestedLaws.{tested_some}
 use Rattle.model.proofs.OptionLaws.{none_some}
 
@@ -94,24 +88,6 @@ directory_has_mode (Some (link_node attributes text)) is = absurd (false≢true 
 
 pub file_has_mode : (o : Option Node) → IsTrue (is_file_node o) → IsTrue (is_file_node o || is_directory_node o)
 file_has_mode o is = ap (λ (b : Bool). b || is_directory_node o) is
-
--- ---- a mode
-
--- a record that changes a mode applies, and this is it, or there is an obstacle
-abbrev pub DecidesMode : Limits → Option Time → Volume → ℕ → ℕ → Result (Option Changing) Errno → Type 0
-DecidesMode limits now v n mode (Ok (Some c)) = (change_by c ≡ stamped now (change_mode n mode)) × Applies limits v (stamped now (change_mode n mode))
-DecidesMode limits now v n mode (Ok None) = ⊥
-DecidesMode limits now v n mode (Err errno) = IsObstacle limits v (stamped now (change_mode n mode)) errno
-
-pub sets_mode_comes : (limits : Limits) (now : Option Time) (v : Volume) (table : ℕ → Option Description) (volume : IsVolume limits v) (mounted : IsMounted v table) (law : RecordsChangeTrees) (n mode : ℕ) (r : Result (Option Changing) Errno)
-    → IsTrue (is_file_node (v n) || is_directory_node (v n)) → DecidesMode limits now v n mode r → ComesOrStays (sets_mode now (tree_of v table) n (Some mode)) limits v table r
-sets_mode_comes limits now v table volume mounted law n mode (Ok None) is decides = absurd decides
-sets_mode_comes limits now v table volume mounted law n mode (Err DAMAGED) is decides = absurd (false≢true (sym decides ∙ is))
-sets_mode_comes limits now v table volume mounted law n mode (Err _) is decides = absurd decides
-sets_mode_comes limits now v table volume mounted law n mode (Ok (Some c)) is (says, applies) =
-    let changed = mode_changed limits now v table mode volume mounted law n applies in
-    comes_swept (sets_mode now (tree_of v table) n (Some mode)) limits v table (Ok c)
-    (subst (ComesBy (sets_mode now (tree_of v table) n (Some mode)) limits v table) (sym says) (applies, changed.0, (refl, changed.1, refl)))
 
 -- ---- a size
 

@@ -2,11 +2,12 @@
 use Rattle.std.specs.Prelude.{ℕ, ◌≡◌, Option, Some, None, Result, Ok, Err}
 use Rattle.model.specs.declared.limits.Limits.{Limits}
 use Rattle.model.specs.Outcomes.{Outcome}
-use Rattle.model.specs.Records.{Change, Edit, Made, Applies, applied, stamped, create, file, directory, symbolic_link, link, remove_name, rename, truncate, change_mode, set_file, work_of}
+use Rattle.model.specs.Records.{Change, Edit, Made, Applies, applied, stamped, create, file, directory, symbolic_link, link, remove_name, rename, truncate, change_attributes, set_file, work_of}
 use Rattle.model.specs.Room.{nothing, logs}
 use Rattle.model.specs.Trees.{Description}
 use Rattle.model.specs.Volumes.{Volume, IsMounted, swept, tree_of}
 use Rattle.model.specs.declared.errno.Errno.{Errno}
+use Rattle.model.specs.declared.limits.TheConstants.{LINK_MODE}
 use Rattle.model.specs.declared.reply.Reply.TheVariants.{Done, Refused}
 use Rattle.records.specs.Obstacles.{IsObstacle}
 use Rattle.calls.specs.declared.changed.Changing.{Changing}
@@ -18,9 +19,10 @@ use Rattle.calls.specs.declared.made.OwnedObject.TheVariants as objects
 
 -- what a call makes
 abbrev pub made_by : OwnedObject → Made
-made_by (objects.File mode) = file mode
-made_by (objects.Directory mode) = directory mode
-made_by (objects.Link text) = symbolic_link text.bytes.items
+made_by (objects.File permissions) = file permissions
+made_by (objects.Directory permissions) = directory permissions
+made_by (objects.Link owner group text) =
+    symbolic_link (record { mode = LINK_MODE; owner = owner; group = group }) text.bytes.items
 
 -- what the record of a new object does
 abbrev pub creation_of : Creation → Edit
@@ -32,7 +34,7 @@ said_by (owned.Create creation) = creation_of creation
 said_by (owned.Link number parent name) = link number parent name.bytes.items
 said_by (owned.RemoveName parent name) = remove_name parent name.bytes.items
 said_by (owned.Rename parent name new_parent new_name) = rename parent name.bytes.items new_parent new_name.bytes.items
-said_by (owned.ChangeMode number mode) = change_mode number mode
+said_by (owned.ChangeAttributes number permissions modified) = change_attributes number permissions modified
 said_by (owned.Truncate number size) = truncate number size
 said_by (owned.SetFile number mode size) = set_file number mode size
 

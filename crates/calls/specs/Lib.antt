@@ -1,4 +1,5 @@
 pub use Rattle.paths.specs.Standing
+pub mod Attributes
 pub mod Refusals
 pub mod List
 pub mod Leading

@@ -2,6 +2,7 @@
 use Rattle.std.specs.Prelude.{ℕ, ◌≡◌, ◌⊎◌, ◌≤◌, not, ◌&&◌, Bool, false, true, IsFalse, IsTrue, List, length, Option, Some, None, Result, Ok, Err}
 use Rattle.model.specs.declared.limits.Limits.{Limits}
 use Rattle.model.specs.declared.attributes.Attributes.{Attributes}
+use Rattle.model.specs.declared.attributes.Permissions.{Permissions}
 use Rattle.model.specs.Descriptors.{described_by, opens_new, opens_object}
 use Rattle.model.specs.Edits.{with_descriptor}
 use Rattle.model.specs.Outcomes.{Outcome, goes_along}
@@ -27,11 +28,11 @@ use Rattle.calls.specs.declared.preparing.open.Opened.{Opened}
 
 -- `open` behind its tests, at each descriptor, and `openstat`, which tells of the file too: the
 -- file that a path leads to, or a new one
-abbrev pub opens_along : Limits → Option Time → Tree → List ℕ → Flags → ℕ → Bool → ℕ → Outcome
-opens_along limits now t path flags mode tells fd =
+abbrev pub opens_along : Limits → Option Time → Tree → List ℕ → Flags → Permissions → Bool → ℕ → Outcome
+opens_along limits now t path flags permissions tells fd =
     goes_along t (not (flags.creates && flags.exclusive)) path
     (λ p o. opens_object tells now t o flags fd)
-    (λ p name. opens_new tells limits now t p name flags mode fd)
+    (λ p name. opens_new tells limits now t p name flags permissions fd)
 
 -- the number, the names, the mode and the size are those of a file of the volume
 abbrev pub IsOpened : Volume → Opened → Type 0
@@ -98,18 +99,18 @@ OpensAt outcome limits flags v table (Ok o) =
     OpensOver outcome limits flags v table o o.changing
 
 -- a file of this number is made, with this name
-abbrev pub OpensMade : Limits → Option Time → Volume → ℕ → ℕ → Name → Opened → Option Changing → Type 0
-OpensMade limits now v mode parent name o None = ⊥
-OpensMade limits now v mode parent name o (Some c) =
-    MakesIn limits now v parent name (file mode) (Ok c)
-    × (change_by c ≡ stamped now (create o.number parent (file mode) name))
-    × (o.links ≡ 1) × (o.mode ≡ mode) × (o.size ≡ 0)
+abbrev pub OpensMade : Limits → Option Time → Volume → Permissions → ℕ → Name → Opened → Option Changing → Type 0
+OpensMade limits now v permissions parent name o None = ⊥
+OpensMade limits now v permissions parent name o (Some c) =
+    MakesIn limits now v parent name (file permissions) (Ok c)
+    × (change_by c ≡ stamped now (create o.number parent (file permissions) name))
+    × (o.links ≡ 1) × (o.mode ≡ permissions.mode) × (o.size ≡ 0)
 
 -- what opening comes to at a name that a directory doesn't have
-abbrev pub OpensNew : Limits → Option Time → Volume → Flags → ℕ → ℕ → Name
+abbrev pub OpensNew : Limits → Option Time → Volume → Flags → Permissions → ℕ → Name
     → Result Opened Errno → Type 0
-OpensNew limits now v flags mode parent name (Ok o) =
-    IsTrue flags.creates × OpensMade limits now v mode parent name o o.changing
-OpensNew limits now v flags mode parent name (Err errno) =
+OpensNew limits now v flags permissions parent name (Ok o) =
+    IsTrue flags.creates × OpensMade limits now v permissions parent name o o.changing
+OpensNew limits now v flags permissions parent name (Err errno) =
     (IsFalse flags.creates × (errno ≡ ENOENT))
-    ⊎ (IsTrue flags.creates × MakesIn limits now v parent name (file mode) (Err errno))
+    ⊎ (IsTrue flags.creates × MakesIn limits now v parent name (file permissions) (Err errno))

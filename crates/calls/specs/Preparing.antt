@@ -1,6 +1,7 @@
 -- What a function promises that prepares the change of a call.
-use Rattle.std.specs.Prelude.{ℕ, ◌≡◌, Option, Some, Result, IfOk, IfErr, IfSome, IsTrue}
+use Rattle.std.specs.Prelude.{ℕ, ◌≡◌, Option, Some, Result, IfOk, IfErr, IfSome, IsTrue, is_some}
 use Rattle.model.specs.declared.limits.Limits.{Limits}
+use Rattle.layout.specs.Record.{Change, FitsAttributes}
 use Rattle.layout.specs.StateLimits.{limits_of}
 use Rattle.model.specs.Trees.{Description}
 use Rattle.model.specs.Volumes.{Volume}
@@ -27,9 +28,13 @@ Answer T = Limits → Volume → (ℕ → Option Description) → Result T Errno
 abbrev pub Readies : {T : Type 0} → (T → Option Changing) → InodeFile → Result T Failure → Type 0
 Readies changes s result = IfOk result (λ x. IfSome (changes x) (λ c. IsReady s c.prepared))
 
+-- a change is so at this time, and gives an object no more than is kept where calls have one
+abbrev pub IsTimed : Option Time → Change → Type 0
+IsTimed now change = (change.time ≡ now) × FitsAttributes (is_some now) change.edit
+
 -- what is to be changed is so at this time
 abbrev pub AreTimed : {T : Type 0} → (T → Option Changing) → Option Time → Result T Failure → Type 0
-AreTimed changes now result = IfOk result (λ x. IfSome (changes x) (λ c. c.time ≡ now))
+AreTimed changes now result = IfOk result (λ x. IfSome (changes x) (λ c. IsTimed now (change_by c)))
 
 -- put in force, what is prepared does what its record says
 abbrev pub WillDo : {B T : Type 0} → (T → Option Changing) → Ghosts B → B → InodeFile → InodeFile → Result T Failure → Type 0

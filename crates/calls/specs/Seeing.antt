@@ -12,7 +12,7 @@ use Rattle.model.specs.Volumes.{Volume, IsVolume, tree_of}
 use Rattle.model.specs.declared.command.PathCall.{PathCall}
 use Rattle.model.specs.declared.errno.Errno.{Errno}
 use Rattle.model.specs.declared.reply.Reply.{Reply}
-use Rattle.model.specs.declared.time.Time.{Time}
+use Rattle.model.specs.declared.session.Session.{Session}
 use Rattle.buffers.specs.Errors.{IsFault}
 use Rattle.buffers.specs.declared.blocks.Blocks.{Ghosts}
 use Rattle.inofile.specs.declared.inode_file.InodeFile.{InodeFile}
@@ -49,5 +49,5 @@ pub record Answers {B T : Type 0} (G : Ghosts B) (blocks after : B) (s t : Inode
 -- files, too
 abbrev pub ReadingForgets : Type 0
 ReadingForgets =
-    (limits : Limits) (now : Option Time) (old new : Tree) (call : PathCall) (reply : Reply) → ForgetsOpenFiles old new → IsTrue (is_reading_call call)
-    → calls limits now old call reply old nothing → calls limits now new call reply new nothing
+    (limits : Limits) (said : Session) (old new : Tree) (call : PathCall) (reply : Reply) → ForgetsOpenFiles old new → IsTrue (is_reading_call call)
+    → calls limits said old call reply old nothing → calls limits said new call reply new nothing

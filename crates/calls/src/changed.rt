@@ -1,13 +1,13 @@
 //! What a call is to change.
 
 ghost use Rattle.std.specs.Prelude.{ℕ, ◌≡◌, ◌≤◌, Bool, IfNone, IfSome, length};
-ghost use Rattle.layout.specs.Record.{body_of, change_of, edit_bytes, edit_of, FitsEditFields, FitsTime, IsChange, KeepsEditLimits, KeepsLimits};
+ghost use Rattle.layout.specs.Record.{body_of, change_of, edit_bytes, edit_of, FitsAttributes, FitsEditFields, FitsTime, IsChange, KeepsEditLimits, KeepsLimits};
 ghost use Rattle.model.specs.Paths.{IsName};
 ghost use Rattle.model.specs.Records.{stamped};
 
 use crate::Creation;
 use layout::{Edit, InodeNumber, Record, is_name};
-use model::{Mode, Time};
+use model::{Mode, Permissions, Time};
 use records::Prepared;
 
 /// A name that a directory has, or may have.
@@ -55,10 +55,11 @@ pub enum OwnedChange {
         new_parent: InodeNumber,
         new_name: EntryName,
     },
-    /// The file or directory gets this mode.
-    ChangeMode {
+    /// The object gets these permissions and this time of its data.
+    ChangeAttributes {
         number: InodeNumber,
-        mode: Mode,
+        permissions: Permissions,
+        modified: Time,
     },
     /// The file gets this size, in bytes.
     Truncate {
@@ -102,8 +103,9 @@ impl OwnedChange {
         ensures says { change_of result ≡ stamped time (said_by self.now) }
         ensures limits { KeepsLimits (change_of result) }
         ensures is { (has_attributes : Bool) → FitsTime has_attributes time
+            → FitsAttributes has_attributes (said_by self.now)
             → IsChange has_attributes (change_of result) }
-        ensures short { length (body_of result) ≤ 1312 }
+        ensures short { length (body_of result) ≤ 1320 }
     {
         let edit = self.edit();
         Record { time, edit }
@@ -114,7 +116,8 @@ impl OwnedChange {
         ensures says { edit_of result ≡ said_by self.now }
         ensures limits { KeepsEditLimits (edit_of result) }
         ensures fits { FitsEditFields (edit_of result) }
-        ensures short { length (edit_bytes (edit_of result)) ≤ 1299 }
+        ensures short { (has_attributes : Bool)
+            → length (edit_bytes has_attributes (edit_of result)) ≤ 1307 }
     {
         // Each of these types holds its values to what their fields have room for.
         match self {
@@ -152,11 +155,16 @@ impl OwnedChange {
                     new_name: &new_name.bytes,
                 }
             }
-            OwnedChange::ChangeMode { number, mode } => {
-                let _ = (number.get(), mode.bits());
-                Edit::ChangeMode {
+            OwnedChange::ChangeAttributes {
+                number,
+                permissions,
+                modified,
+            } => {
+                let _ = number.get();
+                Edit::ChangeAttributes {
                     number: *number,
-                    mode: *mode,
+                    permissions: *permissions,
+                    modified: *modified,
                 }
             }
             OwnedChange::Truncate { number, size } => {

@@ -6,7 +6,7 @@ ghost use Rattle.model.specs.Paths.{IsLinkText};
 
 use crate::EntryName;
 use layout::{Edit, InodeNumber, NewObject, is_link_text};
-use model::Mode;
+use model::{LINK_MODE, Mode, Permissions};
 
 /// The text of a symbolic link.
 #[derive(Drop)]
@@ -31,39 +31,57 @@ impl LinkText {
 /// What a call makes, with a text of its own.
 #[derive(Drop)]
 pub enum OwnedObject {
-    File { mode: Mode },
-    Directory { mode: Mode },
-    Link { text: LinkText },
+    File {
+        permissions: Permissions,
+    },
+    Directory {
+        permissions: Permissions,
+    },
+    /// Its mode is always 0777.
+    Link {
+        owner: u32,
+        group: u32,
+        text: LinkText,
+    },
 }
 
 impl OwnedObject {
     ghost use Rattle.std.specs.Prelude.{◌≡◌, ◌≤◌, length};
     ghost use Rattle.layout.specs.Limits.{Sizes};
     ghost use Rattle.layout.specs.StateLimits.{limits_of};
-    ghost use Rattle.layout.specs.Record.{KeepsMadeLimits, made_of, mode_of_made, text_bytes};
+    ghost use Rattle.layout.specs.Record.{KeepsMadeLimits, made_of, permissions_of_made, text_bytes};
+    ghost use Rattle.layout.specs.Trees.{has_attributes};
+    ghost use Rattle.model.specs.Attributes.{FitAttributes, new_attributes};
     ghost use Rattle.model.specs.Records.{IsMade};
-    ghost use Rattle.model.specs.declared.limits.TheConstants.{MODE_BITS};
     ghost use Rattle.calls.specs.Changing.{made_by};
 
     /// The same, as a record has it.
     pub(crate) fn as_new(&self) -> NewObject<'_>
         ensures says { made_of result ≡ made_by self.now }
-        ensures good { (sizes : Sizes) → IsMade (limits_of sizes) (made_of result) }
+        ensures good { (sizes : Sizes) → FitAttributes (has_attributes sizes.layout)
+            (new_attributes (permissions_of_made (made_of result)))
+            → IsMade (limits_of sizes) (made_of result) }
         ensures limits { KeepsMadeLimits (made_of result) }
-        ensures mode { mode_of_made (made_of result) ≤ MODE_BITS }
         ensures short { length (text_bytes (made_of result)) ≤ 1025 }
     {
-        // The type of a mode holds it to its bits.
         match self {
-            OwnedObject::File { mode } => {
-                let _ = mode.bits();
-                NewObject::File { mode: *mode }
+            OwnedObject::File { permissions } => NewObject::File {
+                permissions: *permissions,
+            },
+            OwnedObject::Directory { permissions } => NewObject::Directory {
+                permissions: *permissions,
+            },
+            OwnedObject::Link { owner, group, text } => {
+                let permissions = Permissions {
+                    mode: Mode::new(LINK_MODE).unwrap(),
+                    owner: *owner,
+                    group: *group,
+                };
+                NewObject::Link {
+                    permissions,
+                    text: &text.bytes,
+                }
             }
-            OwnedObject::Directory { mode } => {
-                let _ = mode.bits();
-                NewObject::Directory { mode: *mode }
-            }
-            OwnedObject::Link { text } => NewObject::Link { text: &text.bytes },
         }
     }
 }
@@ -78,7 +96,7 @@ pub struct Creation {
 }
 
 impl Creation {
-    ghost use Rattle.std.specs.Prelude.{◌≡◌, ◌≤◌, length};
+    ghost use Rattle.std.specs.Prelude.{◌≡◌, ◌≤◌, Bool, length};
     ghost use Rattle.layout.specs.Record.{edit_bytes, edit_of, FitsEditFields, KeepsEditLimits};
     ghost use Rattle.calls.specs.Changing.{creation_of};
 
@@ -87,7 +105,8 @@ impl Creation {
         ensures says { edit_of result ≡ creation_of self.now }
         ensures limits { KeepsEditLimits (edit_of result) }
         ensures fits { FitsEditFields (edit_of result) }
-        ensures short { length (edit_bytes (edit_of result)) ≤ 1299 }
+        ensures short { (has_attributes : Bool)
+            → length (edit_bytes has_attributes (edit_of result)) ≤ 1307 }
     {
         // Each of these types holds its values to what their fields have room for.
         let _ = (self.number.get(), self.parent.get());

@@ -1,8 +1,9 @@
 //! Making an object over a path.
 
-ghost use Rattle.std.specs.Prelude.{◌≡◌, IfOk};
+ghost use Rattle.std.specs.Prelude.{◌≡◌, IfOk, is_some};
+ghost use Rattle.layout.specs.Record.{permissions_of_made};
 ghost use Rattle.layout.specs.StateLimits.{limits_of};
-ghost use Rattle.model.specs.Attributes.{KeepsTime};
+ghost use Rattle.model.specs.Attributes.{FitAttributes, KeepsTime, new_attributes};
 ghost use Rattle.model.specs.Changing.{creates};
 ghost use Rattle.model.specs.Changes.{with_made};
 ghost use Rattle.model.specs.Records.{Made};
@@ -34,6 +35,8 @@ pub(crate) fn make<B: Blocks>(
     object: OwnedObject,
 ) -> Result<Changing, Failure>
     requires now { KeepsTime (limits_of inodes.old.geometry).has_attributes now }
+    requires kept { FitAttributes (is_some now)
+        (new_attributes (permissions_of_made (made_by object))) }
     ensures { Prepares now B.Blocks blocks.old blocks.new inodes.old inodes.new
         (λ limits v table. Comes (creates limits now (tree_of v table) path.now (with_made (made_by
         object))) limits v table) result }
@@ -70,6 +73,8 @@ pub(crate) fn make_in<B: Blocks>(
     object: OwnedObject,
 ) -> Result<Changing, Failure>
     requires now { KeepsTime (limits_of inodes.old.geometry).has_attributes now }
+    requires kept { FitAttributes (is_some now)
+        (new_attributes (permissions_of_made (made_by object))) }
     ensures creates { IfOk result (λ c. CreatesObject inodes.old.geometry.inodes c.change) }
     ensures prepares { Prepares now B.Blocks blocks.old blocks.new inodes.old inodes.new
         (λ limits v table. MakesIn limits now v parent name.items (made_by object)) result }
@@ -113,7 +118,12 @@ fn note_made(
 )
     ensures { inodes.new ≡ inodes.old }
 {
-    if matches!(object, OwnedObject::Directory { mode: _mode }) {
+    if matches!(
+        object,
+        OwnedObject::Directory {
+            permissions: _permissions
+        }
+    ) {
         inodes.note_parent(number.get(), parent.get(), name);
     }
 }

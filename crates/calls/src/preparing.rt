@@ -1,6 +1,8 @@
 //! Calls that change something, each prepared as its record.
 
+pub mod attributes;
 pub mod chmod;
+pub mod chown;
 pub mod link;
 pub mod mkdir;
 pub mod open;
@@ -11,3 +13,4 @@ pub mod store;
 pub mod symlink;
 pub mod truncate;
 pub mod unlink;
+pub mod utimens;

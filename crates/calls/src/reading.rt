@@ -1,5 +1,6 @@
 //! Calls that only look.
 
+pub mod attr;
 pub mod extent;
 pub mod get;
 pub mod list;

@@ -3,12 +3,14 @@
 use std::alloc::{AllocError, Global};
 
 /// The calls that name a path, with their fields in capitals; one that may be left out stands in
-/// brackets.
-const CALLS: [&str; 17] = [
+/// brackets, and TIME is one word or two.
+const CALLS: [&str; 23] = [
     "list PATH",
     "entries PATH COOKIE COUNT",
     "stat PATH",
     "lstat PATH",
+    "attr PATH",
+    "lattr PATH",
     "readlink PATH",
     "get PATH OFFSET COUNT",
     "mkdir PATH [MODE]",
@@ -19,13 +21,17 @@ const CALLS: [&str; 17] = [
     "rename PATH NEW",
     "renamenew PATH NEW",
     "chmod PATH MODE",
+    "chown PATH OWNER GROUP",
+    "lchown PATH OWNER GROUP",
+    "utimens PATH TIME",
+    "lutimens PATH TIME",
     "truncate PATH SIZE",
     "set PATH MODE SIZE",
     "store PATH OFFSET DATA",
 ];
 
 /// The other commands, but `in`, which stands before a call.
-const OTHERS: [&str; 21] = [
+const OTHERS: [&str; 25] = [
     "open PATH FLAGS [MODE]",
     "openstat PATH FLAGS [MODE]",
     "close FD",
@@ -36,10 +42,14 @@ const OTHERS: [&str; 21] = [
     "lseek FD FROM OFFSET",
     "ftruncate FD SIZE",
     "fchmod FD MODE",
+    "fchown FD OWNER GROUP",
+    "futimens FD TIME",
     "fstat FD",
+    "fattr FD",
     "fsync FD",
     "extent PATH OFFSET",
     "at SECONDS NANOSECONDS",
+    "as OWNER GROUP",
     "sync",
     "df",
     "statfs",
@@ -88,5 +98,14 @@ pub fn default_mode(form: &str) -> &'static [u8] {
         b"0755"
     } else {
         b"0644"
+    }
+}
+
+/// Whether `-` may stand in the place of this field: what it would give stays as it is.
+pub fn may_stay(form: &str, field: &str) -> bool {
+    match field {
+        "OWNER" | "GROUP" => !form.starts_with("as "),
+        "MODE" | "SIZE" => form.starts_with("set "),
+        _ => false,
     }
 }

@@ -36,6 +36,8 @@ pub const COMMAND_NOTES: &str = "Commands, one a line, with an example of each:
   entries PATH COOKIE COUNT   names behind a cookie, and what lstat tells of each: entries / 0 100
   stat PATH                   what the path leads to, its number, kind, mode, links, size: stat /d/f
   lstat PATH                  the same of a last symbolic link itself: lstat /l
+  attr PATH                   what stat tells, then owner, group and times: attr /d/f
+  lattr PATH                  the same of a last symbolic link itself: lattr /l
   readlink PATH               the text of a symbolic link: readlink /l
   get PATH OFFSET COUNT       bytes of a file: get /f 0 65536
   mkdir PATH [MODE]           makes a directory, of mode 0755 or this one: mkdir /d 0700
@@ -46,6 +48,10 @@ pub const COMMAND_NOTES: &str = "Commands, one a line, with an example of each:
   rename PATH NEW             gives an object another name: rename /f /d/f
   renamenew PATH NEW          the same, where nothing has that name: renamenew /f /d/f
   chmod PATH MODE             changes the mode: chmod /f 0600
+  chown PATH OWNER GROUP      changes owner and group, - leaves one as it is: chown /f 1000 -
+  lchown PATH OWNER GROUP     the same of a last symbolic link itself: lchown /l 1000 100
+  utimens PATH TIME           changes the time of the data, to now or another one: utimens /f now
+  lutimens PATH TIME          the same of a last symbolic link itself: lutimens /l 5 7
   truncate PATH SIZE          gives a file another size: truncate /f 100
   set PATH MODE SIZE          gives a file both by one write, - leaves one as it is: set /f 0600 9
   store PATH OFFSET DATA      puts bytes in a file: store /f 4 64
@@ -59,10 +65,14 @@ pub const COMMAND_NOTES: &str = "Commands, one a line, with an example of each:
   lseek FD FROM OFFSET        moves the offset: lseek 0 set 1
   ftruncate FD SIZE           gives an open file another size: ftruncate 0 2
   fchmod FD MODE              changes the mode of an open file: fchmod 0 0640
+  fchown FD OWNER GROUP       changes owner and group of an open file: fchown 0 - 100
+  futimens FD TIME            changes the time of an open file's data: futimens 0 5 7
   fstat FD                    what stat tells, of an open file: fstat 0
+  fattr FD                    what attr tells, of an open file: fattr 0
   fsync FD                    answered once all that was done is kept, as each command is: fsync 0
   extent PATH OFFSET          counts a file's stored blocks, finds data and a hole: extent /f 0
   at SECONDS NANOSECONDS      from here on calls come at this time, if the image keeps times: at 5 7
+  as OWNER GROUP              from here on what calls make is theirs, if owners are kept: as 1000 100
   sync                        makes a consistency point: sync
   df                          tells the room of the disk: df
   statfs                      tells the room of the disk, and for how many files: statfs
@@ -70,12 +80,15 @@ pub const COMMAND_NOTES: &str = "Commands, one a line, with an example of each:
   snap list                   names the snapshots, oldest first: snap list
   snap delete NAME            takes a snapshot away: snap delete monday
   snap restore NAME           makes the tree what it was under this name: snap restore monday
-  in NAME ..                  list, entries, stat, lstat, readlink or get there: in monday get /f 0 9
+  in NAME ..                  list, entries, stat, lstat, attr, lattr, readlink or get there:
+                              in monday get /f 0 9
 
 FLAGS is r, w or rw, then some of: c makes a file where none is, x refuses one that is,
 t cuts it to no bytes, a has each write go behind the last byte. A new file has mode 0644 or this one.
 FROM is set, cur or end. DATA is two hexadecimal digits a byte, - for none.
-SECONDS and NANOSECONDS count from the Epoch, SECONDS also below 0; a mount forgets the time of at.
+SECONDS and NANOSECONDS count from the Epoch, SECONDS also below 0. TIME is these two, or now, the
+time of the call, or omit, which leaves it as it is. A mount forgets what at and as said. An image
+that keeps no owners and no times refuses by ENOTSUP what is about them.
 Words stand one space apart; in a path a space is %20, a % is %25, and so each byte
 but 0x21 to 0x7e is % and two lower-case hexadecimal digits. A default mode isn't written.
 

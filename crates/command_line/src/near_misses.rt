@@ -31,6 +31,7 @@ fn known_hint(word: &str) -> Option<&'static str> {
         "cp" => Some("did you mean wafl put or wafl get?"),
         "ln" => Some("did you mean link or symlink?"),
         "touch" => Some("did you mean open PATH wc?"),
+        "chgrp" => Some("did you mean chown PATH - GROUP?"),
         "cd" | "pwd" => Some("there is no working directory: paths begin at / or at a number"),
         "exit" => Some("did you mean quit?"),
         "snapshot" => Some("did you mean snap?"),

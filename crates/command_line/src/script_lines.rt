@@ -85,20 +85,73 @@ fn command_reason(alloc: Global, words: &[&[u8]]) -> Result<String, AllocError> 
 
 /// Why words that begin as this form does are no command.
 fn form_reason(alloc: Global, form: &str, words: &[&[u8]]) -> Result<String, AllocError> {
-    let mut fields = form.split(' ');
-    for word in words {
-        let Some(field) = fields.next() else {
-            return format!(in alloc; "too many words: {form}");
+    let mut left = words;
+    for field in form.split(' ') {
+        let [word, behind @ ..] = left else {
+            return few_reason(alloc, form, field);
         };
-        if !is_field(field) {
-            continue;
+        if field == "TIME" {
+            return time_reason(alloc, form, left);
         }
-        if let Some(reason) = word_reason(alloc, form, field, word)? {
+        if is_field(field)
+            && let Some(reason) = word_reason(alloc, form, field, word)?
+        {
             return Ok(reason);
         }
+        left = behind;
     }
-    match fields.next() {
-        Some(field) if !field.starts_with('[') => format!(in alloc; "too few words: {form}"),
-        _ => String::from_str(alloc, "not a command"),
+    if left.is_empty() {
+        return String::from_str(alloc, "not a command");
+    }
+    many_reason(alloc, form)
+}
+
+/// Why words that end before this field are no command.
+fn few_reason(alloc: Global, form: &str, field: &str) -> Result<String, AllocError> {
+    if field.starts_with('[') {
+        return String::from_str(alloc, "not a command");
+    }
+    format!(in alloc; "too few words: {form}")
+}
+
+/// Why words with more behind them than this form has are no command.
+fn many_reason(alloc: Global, form: &str) -> Result<String, AllocError> {
+    format!(in alloc; "too many words: {form}")
+}
+
+/// Why words with these in the place of a time are no command.
+fn time_reason(alloc: Global, form: &str, words: &[&[u8]]) -> Result<String, AllocError> {
+    match words {
+        [word] if is_time_word(word) => String::from_str(alloc, "not a command"),
+        [_] => {
+            String::from_str(
+                alloc,
+                "a time is now, omit, or seconds and nanoseconds, as 5 7",
+            )
+        }
+        [word, _] if is_time_word(word) => many_reason(alloc, form),
+        [seconds, nanoseconds] => numbers_reason(alloc, form, seconds, nanoseconds),
+        _ => many_reason(alloc, form),
+    }
+}
+
+/// Whether a word is a time.
+fn is_time_word(word: &[u8]) -> bool {
+    word == b"now".as_slice() || word == b"omit".as_slice()
+}
+
+/// Why words with these in the place of seconds and nanoseconds are no command.
+fn numbers_reason(
+    alloc: Global,
+    form: &str,
+    seconds: &[u8],
+    nanoseconds: &[u8],
+) -> Result<String, AllocError> {
+    if let Some(reason) = word_reason(alloc, form, "SECONDS", seconds)? {
+        return Ok(reason);
+    }
+    match word_reason(alloc, form, "NANOSECONDS", nanoseconds)? {
+        Some(reason) => Ok(reason),
+        None => String::from_str(alloc, "not a command"),
     }
 }

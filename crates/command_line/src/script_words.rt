@@ -1,6 +1,6 @@
 //! Why a word isn't what stands in its place, and how it would be spelled.
 
-use crate::forms::default_mode;
+use crate::forms::{default_mode, may_stay};
 use script::read_command;
 use std::alloc::{AllocError, Global};
 
@@ -14,8 +14,13 @@ pub fn word_reason(
     field: &str,
     word: &[u8],
 ) -> Result<Option<String>, AllocError> {
+    if word == b"-".as_slice() && may_stay(form, field) {
+        return Ok(None);
+    }
     match field {
-        "COUNT" | "FD" | "NANOSECONDS" => number_reason(alloc, word, 0, i64::from(u32::MAX)),
+        "COUNT" | "FD" | "NANOSECONDS" | "OWNER" | "GROUP" => {
+            number_reason(alloc, word, 0, i64::from(u32::MAX))
+        }
         "OFFSET" | "SIZE" | "COOKIE" | "SECONDS" => number_reason(alloc, word, i64::MIN, i64::MAX),
         "MODE" => mode_reason(alloc, word, b""),
         "[MODE]" => mode_reason(alloc, word, default_mode(form)),

@@ -6,6 +6,7 @@ use Rattle.layout.specs.StateLimits.{limits_of}
 use Rattle.model.specs.Reading.{gets, tells_entries}
 use Rattle.model.specs.Outcomes.{Outcome}
 use Rattle.model.specs.Room.{nothing}
+use Rattle.model.specs.Sessions.{new_session}
 use Rattle.model.specs.Steps.{calls}
 use Rattle.model.specs.Trees.{Tree}
 use Rattle.model.specs.Volumes.{Volume, tree_of}
@@ -44,7 +45,7 @@ module _ {B T : Type 0} {G : Ghosts B} {a b : B} {s t : InodeFile} {reply : Resu
     looks = looks_ok all.looks;
     own = tt;
     answers = λ disk settled v table stands volume.
-        subst (λ (k : PathCall). calls (limits_of s.geometry) None (tree_of v table) k (reply (Ok x)) (tree_of v table) nothing) (sym is) (all.answers disk settled v table stands volume);
+        subst (λ (k : PathCall). calls (limits_of s.geometry) new_session (tree_of v table) k (reply (Ok x)) (tree_of v table) nothing) (sym is) (all.answers disk settled v table stands volume);
     damaged = λ disk settled v stands bad. cc;
   }
 
@@ -55,8 +56,8 @@ module _ {B T : Type 0} {G : Ghosts B} {a b : B} {s t : InodeFile} {reply : Resu
     looks = looks_ok all.looks;
     own = all.own;
     answers = λ disk settled v table stands volume.
-        let here = subst (λ (r : Reply). calls (limits_of s.geometry) None (tree_of v table) words r (tree_of v table) nothing) (same errno) (all.answers disk settled v table stands volume) in
-        subst (λ (k : PathCall). calls (limits_of s.geometry) None (tree_of v table) k (replies.Refused errno) (tree_of v table) nothing) (sym is) here;
+        let here = subst (λ (r : Reply). calls (limits_of s.geometry) new_session (tree_of v table) words r (tree_of v table) nothing) (same errno) (all.answers disk settled v table stands volume) in
+        subst (λ (k : PathCall). calls (limits_of s.geometry) new_session (tree_of v table) k (replies.Refused errno) (tree_of v table) nothing) (sym is) here;
     damaged = λ disk settled v stands bad. cc;
   })
   fails (Read e) q so same all = carried (Answers G a b s t (asks call) answered_reply) q so (record {

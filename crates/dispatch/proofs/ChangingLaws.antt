@@ -9,6 +9,7 @@ use Rattle.model.specs.Volumes.{Volume, tree_of}
 use Rattle.model.specs.declared.command.PathCall.{PathCall}
 use Rattle.model.specs.declared.command.PathCall.TheVariants as calling
 use Rattle.model.specs.declared.errno.Errno.{Errno}
+use Rattle.model.specs.declared.session.Session.{Session}
 use Rattle.model.specs.declared.time.Time.{Time}
 use Rattle.buffers.specs.declared.blocks.Blocks as blocks
 use Rattle.inofile.specs.declared.inode_file.InodeFile.{InodeFile}
@@ -24,23 +25,23 @@ use Rattle.dispatch.specs.Changing.{CallComes, RecordComes, is_writing_call}
 -- ---- what a call asks for
 
 -- a call that was asked in these words
-pub asked_swept : (limits : Limits) (now : Option Time) (call asked : PathCall) (v : Volume) (table : ℕ → Option Description) (r : Result Changing Errno) → call ≡ asked
-    → ComesSwept (calls limits now (tree_of v table) asked) limits v table r → RecordComes now call limits v table r
-asked_swept limits now call asked v table r is here = subst (λ (k : PathCall). RecordComes now k limits v table r) (sym is) here
+pub asked_swept : (limits : Limits) (said : Session) (call asked : PathCall) (v : Volume) (table : ℕ → Option Description) (r : Result Changing Errno) → call ≡ asked
+    → ComesSwept (calls limits said (tree_of v table) asked) limits v table r → RecordComes said call limits v table r
+asked_swept limits said call asked v table r is here = subst (λ (k : PathCall). RecordComes said k limits v table r) (sym is) here
 
-pub asked : (limits : Limits) (now : Option Time) (call asked : PathCall) (v : Volume) (table : ℕ → Option Description) (r : Result Changing Errno) → call ≡ asked
-    → Comes (calls limits now (tree_of v table) asked) limits v table r → RecordComes now call limits v table r
-asked limits now call words v table r is here = asked_swept limits now call words v table r is (comes_swept (calls limits now (tree_of v table) words) limits v table r here)
+pub asked : (limits : Limits) (said : Session) (call asked : PathCall) (v : Volume) (table : ℕ → Option Description) (r : Result Changing Errno) → call ≡ asked
+    → Comes (calls limits said (tree_of v table) asked) limits v table r → RecordComes said call limits v table r
+asked limits said call words v table r is here = asked_swept limits said call words v table r is (comes_swept (calls limits said (tree_of v table) words) limits v table r here)
 
-pub asked_or_stays : (limits : Limits) (now : Option Time) (call asked : PathCall) (v : Volume) (table : ℕ → Option Description) (r : Result (Option Changing) Errno) → call ≡ asked
-    → ComesOrStays (calls limits now (tree_of v table) asked) limits v table r → CallComes now call limits v table r
-asked_or_stays limits now call asked v table r is here = subst (λ (k : PathCall). CallComes now k limits v table r) (sym is) here
+pub asked_or_stays : (limits : Limits) (said : Session) (call asked : PathCall) (v : Volume) (table : ℕ → Option Description) (r : Result (Option Changing) Errno) → call ≡ asked
+    → ComesOrStays (calls limits said (tree_of v table) asked) limits v table r → CallComes said call limits v table r
+asked_or_stays limits said call asked v table r is here = subst (λ (k : PathCall). CallComes said k limits v table r) (sym is) here
 
 -- the same of one that failed
-pub passes_on : {B : Type 0} {now : Option Time} {G : blocks.Ghosts B} {a b : B} {s t : InodeFile} (call : PathCall) (f : Failure) (q : Result (Option Changing) Failure) → IsErrAnd q (λ g. g ≡ f)
-    → Prepares now G a b s t (RecordComes now call) (Err f) → PreparesAny now G a b s t (CallComes now call) q
-passes_on {now = now} {G = G} {a = a} {b = b} {s = s} {t = t} call (failures.Refused errno) q is told = carried (PreparesAny now G a b s t (CallComes now call)) q is (refuses told.looks told.own told.answers)
-passes_on call (failures.Read e) q is told = stops q is told.looks told.damaged
+pub passes_on : {B : Type 0} {now : Option Time} {G : blocks.Ghosts B} {a b : B} {s t : InodeFile} (said : Session) (call : PathCall) (f : Failure) (q : Result (Option Changing) Failure) → IsErrAnd q (λ g. g ≡ f)
+    → Prepares now G a b s t (RecordComes said call) (Err f) → PreparesAny now G a b s t (CallComes said call) q
+passes_on {now = now} {G = G} {a = a} {b = b} {s = s} {t = t} said call (failures.Refused errno) q is told = carried (PreparesAny now G a b s t (CallComes said call)) q is (refuses told.looks told.own told.answers)
+passes_on said call (failures.Read e) q is told = stops q is told.looks told.damaged
 
 -- what isn't `store` writes no bytes
 pub writes_none : (call : PathCall) → ((path : List ℕ) (offset : ℤ) (given : List ℕ) → call ≢ calling.Store path offset given) → IsFalse (is_writing_call call)

@@ -12,7 +12,7 @@ use Rattle.model.specs.Records.{applied, work_of}
 use Rattle.model.specs.Replies.{IsReplyTo}
 use Rattle.model.specs.Room.{Need, logs, nothing}
 use Rattle.model.specs.declared.session.Session.{Session}
-use Rattle.model.specs.Sessions.{kept_time}
+use Rattle.model.specs.Sessions.{call_time, kept_time, new_permissions}
 use Rattle.model.specs.Steps.{calls, is_reading_call}
 use Rattle.model.specs.Trees.{Description}
 use Rattle.model.specs.Volumes.{IsMounted, Volume, swept, tree_of}
@@ -32,7 +32,7 @@ use Rattle.records.specs.declared.prepared.Prepared.{Prepared}
 use Rattle.records.specs.declared.failure.Failure.{Failure}
 use Rattle.records.specs.declared.failure.Failure.TheVariants as failures
 use Rattle.calls.specs.Changing.{ComesOrStays, change_by}
-use Rattle.calls.specs.Preparing.{Answer, PreparesAny}
+use Rattle.calls.specs.Preparing.{Answer, IsTimed, PreparesAny}
 use Rattle.calls.specs.Store.{IsTransfer, PreparesStoring, StoresFile, change_of_store}
 use Rattle.calls.specs.declared.preparing.store.Storing.{Storing}
 use Rattle.calls.proofs.PrepareSteps.{carried}
@@ -75,7 +75,7 @@ module _ {B T : Type 0} {changes : Changes T} {W : T → Type 0} {G : Ghosts B} 
       → ((P : Prepared → Change → Type 0) → changes x P → of_prepared d P) → ((v : Volume) → answer v (Ok x) → DoesCall (limits_of s.geometry) said v (table_of files) call (Ok d))
       → PreparesCall G a b s t said files call (Ok d)
   does {x = x} is told may changed leads =
-      grants told.looks (may told.within) (changed (λ p change. IsReady t p) told.ready) (changed (λ p change. change.time ≡ kept_time (limits_of s.geometry) said.time) (subst (λ (n : Option Time). changes x (λ p change. change.time ≡ n)) is told.timed)) (λ disk settled v stands. changed (λ p change. Does disk settled t v p change) (told.does disk settled v stands))
+      grants told.looks (may told.within) (changed (λ p change. IsReady t p) told.ready) (changed (λ p change. IsTimed (kept_time (limits_of s.geometry) said.time) change) (subst (λ (n : Option Time). changes x (λ p change. IsTimed n change)) is told.timed)) (λ disk settled v stands. changed (λ p change. Does disk settled t v p change) (told.does disk settled v stands))
       (λ disk settled v stands volume mounted fits. leads v (told.answers disk settled v stands volume mounted fits))
 
 -- what a write at an offset comes to
@@ -106,7 +106,7 @@ comes_so limits said v table call outcome (Some c) leads told =
 module _ (path : List ℕ) (flags : Flags) (mode below : ℕ) where
   -- what `open` and `openstat` come to is what they lead to
   pub opens_leads : (limits : Limits) (said : Session) (v : Volume) (table : ℕ → Option Description) (tells : Bool) (reply : Reply) (w : Volume) (after : ℕ → Option Description) (need : Need)
-      → opens tells below limits (kept_time limits said.time) (tree_of v table) path flags mode reply (tree_of w after) need → WouldLead limits said v table (opening_call tells path flags mode below) reply w after need
+      → opens tells below limits (call_time limits said) (tree_of v table) path flags (new_permissions limits said mode) reply (tree_of w after) need → WouldLead limits said v table (opening_call tells path flags mode below) reply w after need
   opens_leads limits said v table false reply w after need told snapshots room = (told, refl)
   opens_leads limits said v table true reply w after need told snapshots room = (told, refl)
 
@@ -115,7 +115,7 @@ module _ (path : List ℕ) (flags : Flags) (mode below : ℕ) where
   opening_kind true o = tt
 
   pub opens_so : (limits : Limits) (said : Session) (v : Volume) (files : Descriptors) (tells : Bool) (o : Opening) (c : Option Changing)
-      → OpensDescriptorOver (λ t. opens t below limits (kept_time limits said.time) (tree_with files v) path flags mode) limits v files o c
+      → OpensDescriptorOver (λ t. opens t below limits (call_time limits said) (tree_with files v) path flags (new_permissions limits said mode)) limits v files o c
       → DoesBeside limits said v (table_of files) (opening_call tells path flags mode below) (opening_reply tells o) (Opens o.fd o.file) (said_change c)
   opens_so limits said v files tells o None told = (told.0, opens_leads limits said v (table_of files) tells (opening_reply tells o) v (with_opened o files) nothing (told.1 tells))
   opens_so limits said v files tells o (Some c) told =
@@ -132,30 +132,30 @@ opening_accepted true o errno is = cc
 
 -- ---- a call by a path
 
-pub path_leads : (call : PathCall) (limits : Limits) (said : Session) (v : Volume) (table : ℕ → Option Description) (reply : Reply) (w : Volume) (need : Need) → calls limits (kept_time limits said.time) (tree_of v table) call reply (tree_of w table) need
+pub path_leads : (call : PathCall) (limits : Limits) (said : Session) (v : Volume) (table : ℕ → Option Description) (reply : Reply) (w : Volume) (need : Need) → calls limits said (tree_of v table) call reply (tree_of w table) need
     → WouldLead limits said v table (command.Path call) reply w table need
 path_leads call limits said v table reply w need told snapshots room = (told, refl)
 
 module _ {B : Type 0} {G : Ghosts B} {a b : B} {s t : InodeFile} (said : Session) (call : PathCall) where
   -- it isn't refused
-  pub path_done : {now : Option Time} → now ≡ kept_time (limits_of s.geometry) said.time → IsFalse (is_reading_call call) → IsFalse (is_writing_call call) → (o : Option Changing) → PreparesAny now G a b s t (CallComes now call) (Ok o) → (files : Descriptors)
+  pub path_done : {now : Option Time} → now ≡ kept_time (limits_of s.geometry) said.time → IsFalse (is_reading_call call) → IsFalse (is_writing_call call) → (o : Option Changing) → PreparesAny now G a b s t (CallComes said call) (Ok o) → (files : Descriptors)
       → PreparesCall G a b s t said files (command.Path call) (Ok (record { reply = Done; change = said_change o; table = Stays }))
   path_done is changes writes o told files =
       grants told.looks (record { kind = done_is_reply call changes writes; accepted = λ errno is. cc; moves = tt; numbered = tt; limits = said_within o }) (said_so o (λ p change. IsReady t p) told.ready)
-      (said_so o (λ p change. change.time ≡ kept_time (limits_of s.geometry) said.time) (subst (λ (n : Option Time). IfSome o (λ c. c.time ≡ n)) is told.timed))
+      (said_so o (λ p change. IsTimed (kept_time (limits_of s.geometry) said.time) change) (subst (λ (n : Option Time). IfSome o (λ c. IsTimed n (change_by c))) is told.timed))
       (λ disk settled v stands. said_so o (λ p change. Does disk settled t v p change) (told.does disk settled v stands))
       (λ disk settled v stands volume mounted fits.
-      comes_so (limits_of s.geometry) said v (table_of files) (command.Path call) (calls (limits_of s.geometry) (kept_time (limits_of s.geometry) said.time) (tree_of v (table_of files)) call) o (path_leads call (limits_of s.geometry) said v (table_of files))
-      (subst (λ (n : Option Time). ComesOrStays (calls (limits_of s.geometry) n (tree_of v (table_of files)) call) (limits_of s.geometry) v (table_of files) (Ok o)) is (told.answers disk settled v (table_of files) stands volume mounted)))
+      comes_so (limits_of s.geometry) said v (table_of files) (command.Path call) (calls (limits_of s.geometry) said (tree_of v (table_of files)) call) o (path_leads call (limits_of s.geometry) said v (table_of files))
+      (told.answers disk settled v (table_of files) stands volume mounted))
 
   -- it is
-  pub path_refused : {now : Option Time} → now ≡ kept_time (limits_of s.geometry) said.time → (f : Failure) (q : Result PreparedCall Failure) → IsErrAnd q (λ g. g ≡ f) → PreparesAny now G a b s t (CallComes now call) (Err f) → (files : Descriptors)
+  pub path_refused : {now : Option Time} → (f : Failure) (q : Result PreparedCall Failure) → IsErrAnd q (λ g. g ≡ f) → PreparesAny now G a b s t (CallComes said call) (Err f) → (files : Descriptors)
       → PreparesCall G a b s t said files (command.Path call) q
-  path_refused same (failures.Refused errno) q is told files = carried (PreparesCall G a b s t said files (command.Path call)) q is
+  path_refused (failures.Refused errno) q is told files = carried (PreparesCall G a b s t said files (command.Path call)) q is
       (refuses told.looks told.own (λ disk settled v stands volume mounted fits.
       path_leads call (limits_of s.geometry) said v (table_of files) (Refused errno) v nothing
-      (subst (λ (n : Option Time). calls (limits_of s.geometry) n (tree_of v (table_of files)) call (Refused errno) (tree_of v (table_of files)) nothing) same (told.answers disk settled v (table_of files) stands volume mounted))))
-  path_refused same (failures.Read e) q is told files = carried (PreparesCall G a b s t said files (command.Path call)) q is
+      (told.answers disk settled v (table_of files) stands volume mounted)))
+  path_refused (failures.Read e) q is told files = carried (PreparesCall G a b s t said files (command.Path call)) q is
       (stops told.looks told.damaged (λ disk settled v stands volume mounted fits. tt))
 
 -- ---- bytes that go to a file over a path
@@ -165,9 +165,9 @@ abbrev pub of_storing : Option Time → List ℕ → Changes (Option Storing)
 of_storing now bytes o P = IfSome o (λ w. P w.prepared (change_of_store now w bytes))
 
 -- they are prepared for this time
-stored_then : (now : Option Time) (bytes : List ℕ) (r : Result (Option Storing) Failure) → IfOk r (λ o. of_storing now bytes o (λ p change. change.time ≡ now))
+stored_then : (now : Option Time) (bytes : List ℕ) (r : Result (Option Storing) Failure) → IfOk r (λ o. of_storing now bytes o (λ p change. IsTimed now change))
 stored_then now bytes (Ok None) = tt
-stored_then now bytes (Ok (Some w)) = refl
+stored_then now bytes (Ok (Some w)) = (refl, tt)
 stored_then now bytes (Err f) = tt
 
 -- as a call that is prepared beside a table of open files

@@ -5,8 +5,8 @@ use Rattle.model.specs.declared.limits.Limits.{Limits}
 use Rattle.layout.specs.StateLimits.{limits_of}
 use Rattle.station.specs.Moments.{Meaning}
 use Rattle.station.specs.declared.station.Station.{Ghosts}
-use Rattle.layout.specs.Record.{Change, FitsTime, IsChange}
-use Rattle.layout.proofs.TimeLaws.{now_fits}
+use Rattle.layout.specs.Record.{Change, FitsAttributes, FitsTime, IsChange}
+use Rattle.layout.proofs.TimeLaws.{now_fits, time_kept}
 use Rattle.model.specs.Circumstances.{IsSure}
 use Rattle.model.specs.Paths.{Name}
 use Rattle.model.specs.Records.{Applies, applied, work_of}
@@ -30,9 +30,11 @@ use Rattle.records.specs.declared.failure.Failure.{Failure}
 use Rattle.descriptors.specs.Fits.{FitsVolume}
 use Rattle.descriptors.specs.Tables.{table_of}
 use Rattle.descriptors.specs.declared.table.Descriptors.{Descriptors}
+use Rattle.calls.proofs.AttributeLaws.{kept_where}
+use Rattle.calls.specs.Preparing.{IsTimed}
 use Rattle.dispatch.specs.Answering.{IsAnswered}
 use Rattle.dispatch.specs.OpenFiles.{FitsMove, WouldLead, is_looking_call, is_table_call, moved_table}
-use Rattle.dispatch.specs.Preparing.{DoesBeside, DoesCall, DoesRecord, IsPreparedAt, PreparesCall, logged_by, only_looks}
+use Rattle.dispatch.specs.Preparing.{DoesBeside, DoesCall, DoesRecord, IsPreparedAt, PreparesCall, logged_by, only_looks, recorded}
 use Rattle.dispatch.specs.Serving.{WouldCall}
 use Rattle.dispatch.specs.Showing.{IsShowing, ShowsState}
 use Rattle.system.specs.Logging.{Advances}
@@ -56,6 +58,7 @@ pub looking_not_sure : {S : Type 0} {G : Ghosts S} (f : System S G) (call : Comm
 looking_not_sure f (command.Read fd count) is = (λ s shown sure. sure, λ once. once)
 looking_not_sure f (command.Pread fd offset count) is = (λ s shown sure. sure, λ once. once)
 looking_not_sure f (command.Fstat fd) is = (λ s shown sure. sure, λ once. once)
+looking_not_sure f (command.Fattr fd) is = (λ s shown sure. sure, λ once. once)
 looking_not_sure f _ is = cc
 
 pub changing_not_sure : {S : Type 0} {G : Ghosts S} (f : System S G) (call : Command) → IsFalse (only_looks call) → NotSure f call
@@ -66,6 +69,8 @@ changing_not_sure f (command.Write fd given) is = (λ s shown sure. sure, λ onc
 changing_not_sure f (command.Pwrite fd offset given) is = (λ s shown sure. sure, λ once. once)
 changing_not_sure f (command.Ftruncate fd size) is = (λ s shown sure. sure, λ once. once)
 changing_not_sure f (command.Fchmod fd mode) is = (λ s shown sure. sure, λ once. once)
+changing_not_sure f (command.Fchown fd owner group) is = (λ s shown sure. sure, λ once. once)
+changing_not_sure f (command.Futimens fd time) is = (λ s shown sure. sure, λ once. once)
 changing_not_sure f _ is = cc
 
 -- ---- calls that log nothing
@@ -129,9 +134,16 @@ module _ {m : Meaning} {k : Parts} {table : ℕ → Option Description} {s : Sta
       (subst (λ (o : Option PreparedChange). IfSome o (λ c. Does disk settled k.inodes shown.running c.prepared (logged_by c))) some prepared.does)
 
   -- and it applies
-  pub may_advance : ((has_attributes : Bool) → FitsTime has_attributes c.time → IsChange has_attributes change) → Advances (limits_of k.root.geometry) shown.running table change
+  pub may_advance : ((has_attributes : Bool) → FitsTime has_attributes c.time → FitsAttributes has_attributes (recorded c.record) → IsChange has_attributes change) → Advances (limits_of k.root.geometry) shown.running table change
   may_advance is =
-      let timed = subst (λ (o : Option PreparedChange). IfSome o (λ c. c.time ≡ kept_time (limits_of k.root.geometry) k.session.time)) some prepared.timed in record { is = is (limits_of k.root.geometry).has_attributes (subst (FitsTime (limits_of k.root.geometry).has_attributes) (sym timed) (now_fits k.root.geometry k.session.time prepared.said.time)); applies = told_logged.applies; mounted = told_logged.mounted }
+      let limits = limits_of k.root.geometry in
+      let timed = subst (λ (o : Option PreparedChange). IfSome o (λ c. IsTimed (kept_time limits k.session.time) (logged_by c))) some prepared.timed in
+      let keeps = now_fits k.root.geometry k.session.time prepared.said.time in record {
+        is = is limits.has_attributes (subst (FitsTime limits.has_attributes) (sym timed.0) keeps)
+            (subst (λ (b : Bool). FitsAttributes b (recorded c.record)) (kept_where limits.has_attributes (kept_time limits k.session.time) (time_kept k.root.geometry.layout (kept_time limits k.session.time) keeps)) timed.1);
+        applies = told_logged.applies;
+        mounted = told_logged.mounted;
+      }
 
 -- behind a record, with another table of open files
 pub moved_on : {m : Meaning} {k : Parts} {table : ℕ → Option Description} (limits : Limits) (said : Session) {v : Volume} (snapshots : List (Name × Tree)) {changes : List Change}

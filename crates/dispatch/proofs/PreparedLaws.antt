@@ -28,6 +28,7 @@ use Rattle.system.specs.Ahead.{HasStateAhead}
 use Rattle.system.specs.Systems.{Parts, blocks_with, disk_of, system_parts}
 use Rattle.system.specs.Waits.{Waits}
 use Rattle.system.specs.declared.system.System.{System}
+use Rattle.calls.specs.Preparing.{IsTimed}
 use Rattle.dispatch.specs.Answering.{Answers, IsAnswered, answer_to}
 use Rattle.dispatch.specs.OpenFiles.{CanMove, HasRoomToMove, OpensNumber}
 use Rattle.dispatch.specs.Preparing.{CanCarryOut, DoesBeside, DoesCall, IsPreparedAt, PreparesCall, PreparesOn, logged_by}
@@ -83,8 +84,8 @@ prepared_at f mid call p prepares shown =
     let Comes = λ (x : Session) (g : Sizes) (t : ℕ → Option Description). DoesBeside (limits_of g) x v t call p.reply p.table p.change in
     record {
       said = subst IsSession same prepares.said;
-      timed = subst (λ (x : Session). IfSome p.change (λ c. c.time ≡ kept_time (limits_of mid.root.geometry) x.time)) same
-          (subst (λ (g : Sizes). IfSome p.change (λ c. c.time ≡ kept_time (limits_of g) f.session.time)) (f.sizes ∙ ap (λ (r : Root). r.geometry) (sym root)) told.timed);
+      timed = subst (λ (x : Session). IfSome p.change (λ c. IsTimed (kept_time (limits_of mid.root.geometry) x.time) (logged_by c))) same
+          (subst (λ (g : Sizes). IfSome p.change (λ c. IsTimed (kept_time (limits_of g) f.session.time) (logged_by c))) (f.sizes ∙ ap (λ (r : Root). r.geometry) (sym root)) told.timed);
       does = subst (λ (r : Root). DoesOver (disk_of mid) r) (sym root) (subst (λ (d : ℕ → List ℕ). DoesOver d f.root) (same_disk told.looks.reads shown.honest) (on_volumes f shown told.does));
       comes = subst (λ (x : Session). Comes x mid.root.geometry (table_of mid.files)) same
           (subst (λ (t : ℕ → Option Description). Comes f.session mid.root.geometry t) (sym prepares.table)

@@ -6,7 +6,7 @@ use Rattle.layout.specs.StateLimits.{limits_of}
 use Rattle.station.specs.declared.station.Station.{Ghosts}
 use Rattle.model.specs.Paths.{first_refusal}
 use Rattle.model.specs.Room.{Room, nothing}
-use Rattle.model.specs.Sessions.{at_time}
+use Rattle.model.specs.Sessions.{as_owner, at_time}
 use Rattle.model.specs.States.{State, with_session}
 use Rattle.model.specs.Steps.{Step, WouldStep, says}
 use Rattle.model.specs.declared.command.Command.{Command}
@@ -55,6 +55,22 @@ module _ (s : State) (seconds : ℤ) (nanoseconds : ℕ) where
       subst (λ (b : Bool). by_tests (not b) (nat_lt MOST_NANOSECONDS nanoseconds) Done (with_session (at_time said s.session) s) nothing) (sym has)
       (subst (λ (b : Bool). by_tests false b Done (with_session (at_time said s.session) s) nothing) (sym few) (refl, refl, refl))
 
+module _ (s : State) (owner group : ℕ) where
+  -- what `as` comes to by its test
+  abbrev by_test : Bool → Step
+  by_test has_none = elim (first_refusal ((has_none, ENOTSUP) ∷ [])) [
+    | Some errno ↦ says s (Refused errno)
+    | None ↦ λ reply new need. (reply ≡ Done) × (new ≡ with_session (as_owner owner group s.session) s) × (need ≡ nothing)
+  ]
+
+  -- the file system keeps no owners
+  pub no_owners : (room : Room) → s.limits.has_attributes ≡ false → WouldStep room s (command.As owner group) (Refused ENOTSUP) s nothing
+  no_owners room none = subst (λ (b : Bool). by_test (not b) (Refused ENOTSUP) s nothing) (sym none) (refl, refl, refl)
+
+  -- it is done
+  pub as_done : (room : Room) → s.limits.has_attributes ≡ true → WouldStep room s (command.As owner group) Done (with_session (as_owner owner group s.session) s) nothing
+  as_done room has = subst (λ (b : Bool). by_test (not b) Done (with_session (as_owner owner group s.session) s) nothing) (sym has) (refl, refl, refl)
+
 -- the limits of the state that a system shows are those of its image
 pub has_shown : {S : Type 0} {G : Ghosts S} (f : System S G) {s : State} → ShowsState f s → (has : Bool) → (limits_of f.root.geometry).has_attributes ≡ has → s.limits.has_attributes ≡ has
 has_shown f shown has is = subst (λ (u : State). u.limits.has_attributes ≡ has) (sym shown.state) is
@@ -77,25 +93,21 @@ many_told nanoseconds many = elim (cases_Bool (nat_lt MOST_NANOSECONDS nanosecon
   | inr none ↦ absurd (many (ltb-false MOST_NANOSECONDS nanoseconds none))
 ]
 
-module _ {S : Type 0} {G : Ghosts S} (f new : System S G) {s : State} (shown : ShowsState f s) (seconds : ℤ) (nanoseconds : ℕ) where
+module _ {S : Type 0} {G : Ghosts S} (f new : System S G) {s : State} (shown : ShowsState f s) (call : Command) where
   -- refused, it leaves all as it is
-  pub at_refused : (reply : Reply) → new.session ≡ f.session → new.inodes ≡ f.inodes → new.files ≡ f.files → ((room : Room) → WouldStep room s (command.At seconds nanoseconds) reply s nothing)
-      → IsAnswered f new shown (command.At seconds nanoseconds) reply
-  at_refused reply same inodes files told = record {
+  pub saying_refused : (reply : Reply) → new.session ≡ f.session → new.inodes ≡ f.inodes → new.files ≡ f.files → ((room : Room) → WouldStep room s call reply s nothing) → IsAnswered f new shown call reply
+  saying_refused reply same inodes files told = record {
     next = s;
     step = λ room stored. told room;
     shows = still_shown f new shown (stands_same f shown inodes) same (ap table_of files) (λ v fits. subst (λ (d : Descriptors). FitsVolume d v) (sym files) fits);
   }
 
-  -- done, it leaves another time
-  pub at_said : new.session ≡ at_time (said s seconds nanoseconds) f.session → new.inodes ≡ f.inodes → new.files ≡ f.files
-      → ((room : Room) → WouldStep room s (command.At seconds nanoseconds) Done (with_session (at_time (said s seconds nanoseconds) s.session) s) nothing)
-      → IsAnswered f new shown (command.At seconds nanoseconds) Done
-  at_said same inodes files told =
-      let stands = stands_same f shown inodes in
-      let time = said s seconds nanoseconds in
-      record {
-        next = with_session (at_time time s.session) s;
+  -- done, it leaves another session
+  pub is_said : (say : Session → Session) → new.session ≡ say f.session → new.inodes ≡ f.inodes → new.files ≡ f.files
+      → ((room : Room) → WouldStep room s call Done (with_session (say s.session) s) nothing) → IsAnswered f new shown call Done
+  is_said say same inodes files told =
+      let stands = stands_same f shown inodes in record {
+        next = with_session (say s.session) s;
         step = λ room stored. told room;
         shows = record {
           running = shown.running;
@@ -105,7 +117,7 @@ module _ {S : Type 0} {G : Ghosts S} (f new : System S G) {s : State} (shown : S
           mounted = shown.mounted;
           opened = shown.opened ∙ ap table_of (sym files);
           fits = subst (λ (d : Descriptors). FitsVolume d shown.running) (sym files) shown.fits;
-          state = ap (λ (u : State). with_session (at_time time u.session) u) shown.state
+          state = ap (λ (u : State). with_session (say u.session) u) shown.state
               ∙ ap (λ (x : Session). state_with (limits_of f.root.geometry) x shown.running s.tree.descriptors shown.snapshots) (sym same);
         };
       }

@@ -10,12 +10,12 @@ use Rattle.model.specs.Circumstances.{IsSure}
 use Rattle.model.specs.Replies.{IsReplyTo}
 use Rattle.model.specs.Reading.{tells_extent}
 use Rattle.model.specs.Room.{Need, Room, nothing}
-use Rattle.model.specs.Sessions.{kept_time}
-use Rattle.model.specs.States.{State, now_of}
+use Rattle.model.specs.Sessions.{new_session}
+use Rattle.model.specs.States.{State}
 use Rattle.model.specs.Steps.{WouldStep, calls, is_reading_call}
 use Rattle.model.specs.Trees.{Description, Tree}
 use Rattle.model.specs.declared.limits.Limits.{Limits}
-use Rattle.model.specs.declared.time.Time.{Time}
+use Rattle.model.specs.declared.session.Session.{Session}
 use Rattle.model.specs.Volumes.{tree_of}
 use Rattle.model.specs.declared.command.Command.{Command}
 use Rattle.model.specs.declared.command.Command.TheVariants as command
@@ -42,24 +42,25 @@ use Rattle.system.specs.Systems.{Parts, blocks_with, system_parts}
 use Rattle.system.specs.declared.system.System.{System}
 use Rattle.dispatch.proofs.ShowingLaws.{KeepsViews}
 
--- a call that only reads comes to the same at any time
-pub asked_at : (now : Option Time) (limits : Limits) (t : Tree) (call : PathCall) (reply : Reply) (need : Need) → IsTrue (is_reading_call call) → calls limits None t call reply t need → calls limits now t call reply t need
-asked_at now limits t (calling.List path) reply need reading told = told
-asked_at now limits t (calling.Entries path after count) reply need reading told = told
-asked_at now limits t (calling.Stat path) reply need reading told = told
-asked_at now limits t (calling.Lstat path) reply need reading told = told
-asked_at now limits t (calling.Readlink path) reply need reading told = told
-asked_at now limits t (calling.Get path offset count) reply need reading told = told
-asked_at now limits t _ reply need reading told = cc
+-- a call that only reads comes to the same in any session
+pub asked_at : (said : Session) (limits : Limits) (t : Tree) (call : PathCall) (reply : Reply) (need : Need) → IsTrue (is_reading_call call) → calls limits new_session t call reply t need → calls limits said t call reply t need
+asked_at said limits t (calling.List path) reply need reading told = told
+asked_at said limits t (calling.Entries path after count) reply need reading told = told
+asked_at said limits t (calling.Stat path) reply need reading told = told
+asked_at said limits t (calling.Lstat path) reply need reading told = told
+asked_at said limits t (calling.Attr path follow) reply need reading told = told
+asked_at said limits t (calling.Readlink path) reply need reading told = told
+asked_at said limits t (calling.Get path offset count) reply need reading told = told
+asked_at said limits t _ reply need reading told = cc
 
 module _ {m : Meaning} {k : Parts} {table : ℕ → Option Description} {s : State} (shown : IsShowing m k table s) where
   -- what is told of a system's volume is told of the state that it shows
   pub told_of : (call : PathCall) (reply : Reply) {sizes : Sizes} → sizes ≡ k.root.geometry → IsTrue (is_reading_call call)
-      → calls (limits_of sizes) None (tree_of shown.running table) call reply (tree_of shown.running table) nothing → WouldCall s (command.Path call) reply s nothing
+      → calls (limits_of sizes) new_session (tree_of shown.running table) call reply (tree_of shown.running table) nothing → WouldCall s (command.Path call) reply s nothing
   told_of call reply same reading told room = (
-    subst (λ (u : State). calls u.limits (now_of u) u.tree call reply u.tree nothing) (sym shown.state)
-        (asked_at (kept_time (limits_of k.root.geometry) k.session.time) (limits_of k.root.geometry) (tree_of shown.running table) call reply nothing reading
-        (subst (λ (z : Sizes). calls (limits_of z) None (tree_of shown.running table) call reply (tree_of shown.running table) nothing) same told)),
+    subst (λ (u : State). calls u.limits u.session u.tree call reply u.tree nothing) (sym shown.state)
+        (asked_at k.session (limits_of k.root.geometry) (tree_of shown.running table) call reply nothing reading
+        (subst (λ (z : Sizes). calls (limits_of z) new_session (tree_of shown.running table) call reply (tree_of shown.running table) nothing) same told)),
     refl,
   )
 
@@ -95,6 +96,7 @@ done_is_reply (calling.List path) reads writes = cc
 done_is_reply (calling.Entries path after count) reads writes = cc
 done_is_reply (calling.Stat path) reads writes = cc
 done_is_reply (calling.Lstat path) reads writes = cc
+done_is_reply (calling.Attr path follows) reads writes = cc
 done_is_reply (calling.Readlink path) reads writes = cc
 done_is_reply (calling.Get path offset count) reads writes = cc
 done_is_reply (calling.Store path offset given) reads writes = cc

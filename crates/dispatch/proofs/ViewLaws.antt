@@ -7,7 +7,8 @@ use Rattle.model.specs.Laws.{MountsForget}
 use Rattle.model.specs.Paths.{Name}
 use Rattle.model.specs.Records.{without_orphans}
 use Rattle.model.specs.Room.{nothing}
-use Rattle.model.specs.States.{State, now_of}
+use Rattle.model.specs.Sessions.{new_session}
+use Rattle.model.specs.States.{State}
 use Rattle.model.specs.Steps.{Step, calls, frozen, is_reading_call, passing, says, views}
 use Rattle.model.specs.Trees.{Description, Tree}
 use Rattle.model.specs.Volumes.{Volume, IsVolume, tree_of}
@@ -34,18 +35,18 @@ use Rattle.system.proofs.ViewLaws.{closed}
 
 -- what is answered on a volume is answered on the tree that a snapshot of it has
 pub frozen_told : MountsForget → ReadingForgets → (limits : Limits) (v : Volume) (c : PathCall) (reply : Reply) → IsVolume limits v → IsTrue (is_reading_call c)
-    → calls limits None (tree_of v closed) c reply (tree_of v closed) nothing → calls limits None (tree_of (without_orphans v) closed) c reply (tree_of (without_orphans v) closed) nothing
+    → calls limits new_session (tree_of v closed) c reply (tree_of v closed) nothing → calls limits new_session (tree_of (without_orphans v) closed) c reply (tree_of (without_orphans v) closed) nothing
 frozen_told forgets reads limits v c reply volume reading told =
-    reads limits None (tree_of v closed) (tree_of (without_orphans v) closed) c reply (forgets limits v v closed volume (extends_itself v)) reading told
+    reads limits new_session (tree_of v closed) (tree_of (without_orphans v) closed) c reply (forgets limits v v closed volume (extends_itself v)) reading told
 
 module _ (s : State) (name : Name) (c : PathCall) where
   abbrev viewed : Bool → Option (Name × Tree) → Reply → Type 0
   viewed reading found answer = (elim found as (λ _. Step) [
     | None ↦ says s (Refused NOSNAP)
-    | Some pair ↦ passing s ((not reading, EROFS) ∷ []) (λ reply new need. calls s.limits (now_of s) pair.1 c reply pair.1 need × (new ≡ s))
+    | Some pair ↦ passing s ((not reading, EROFS) ∷ []) (λ reply new need. calls s.limits s.session pair.1 c reply pair.1 need × (new ≡ s))
   ]) answer s nothing
 
-  pub reading_viewed : (pair : Name × Tree) (reply : Reply) → frozen s name ≡ Some pair → IsTrue (is_reading_call c) → calls s.limits (now_of s) pair.1 c reply pair.1 nothing
+  pub reading_viewed : (pair : Name × Tree) (reply : Reply) → frozen s name ≡ Some pair → IsTrue (is_reading_call c) → calls s.limits s.session pair.1 c reply pair.1 nothing
       → views s name c reply s nothing
   reading_viewed pair reply is reading told =
       subst (λ (o : Option (Name × Tree)). viewed (is_reading_call c) o reply) (sym is)

@@ -1,11 +1,12 @@
 -- What calls are answered that log nothing.
-use Rattle.std.specs.Prelude.{◌≡◌, ◌⊎◌, None, Result, Ok, Err, IfOk, IsErrOf, MatchResult}
+use Rattle.std.specs.Prelude.{◌≡◌, ◌⊎◌, Result, Ok, Err, IfOk, IsErrOf, MatchResult}
 use Rattle.model.specs.declared.limits.Limits.{Limits}
 use Rattle.station.specs.declared.station.Station.{Ghosts}
 use Rattle.model.specs.Circumstances.{IsSure}
 use Rattle.model.specs.Outcomes.{Outcome}
 use Rattle.model.specs.Replies.{IsReplyTo}
 use Rattle.model.specs.Room.{nothing}
+use Rattle.model.specs.Sessions.{new_session}
 use Rattle.model.specs.States.{State}
 use Rattle.model.specs.Steps.{calls}
 use Rattle.model.specs.Trees.{Tree}
@@ -29,9 +30,9 @@ use Rattle.system.specs.declared.system.System.{System}
 use Rattle.dispatch.specs.Serving.{AnswersAtOnce, IsAtOnce, IsSureOn, TellsNoFault, WouldCallOn}
 use Rattle.dispatch.specs.Showing.{ShowsNext, ShowsState}
 
--- what a call by a path comes to on a tree within limits, where it only reads: whatever the time
+-- what a call by a path comes to on a tree within limits, where it only reads: whatever the session
 abbrev pub asks : PathCall → Limits → Tree → Outcome
-asks call limits t = calls limits None t call
+asks call limits t = calls limits new_session t call
 
 -- a reply, or a refusal, as it is answered
 abbrev pub answered_reply : Result Reply Errno → Reply

@@ -32,6 +32,7 @@ abbrev pub is_looking_call : Command → Bool
 is_looking_call (command.Read fd count) = true
 is_looking_call (command.Pread fd offset count) = true
 is_looking_call (command.Fstat fd) = true
+is_looking_call (command.Fattr fd) = true
 is_looking_call _ = false
 
 -- so a call on a mounted volume with these descriptors would be answered, and these would be left

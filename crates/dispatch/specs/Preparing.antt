@@ -30,6 +30,7 @@ use Rattle.records.specs.Prepared.{Does, IsReady}
 use Rattle.records.specs.declared.failure.Failure.{Failure}
 use Rattle.calls.specs.Changing.{said_by}
 use Rattle.calls.specs.declared.changed.Changing.{Changing}
+use Rattle.calls.specs.Preparing.{IsTimed}
 use Rattle.files.specs.Preparing.{Changes, PreparesOpen}
 use Rattle.dispatch.specs.OpenFiles.{CanMove, FitsMove, HasRoomToMove, OpensNumber, WouldLead, moved_table}
 use Rattle.dispatch.specs.Serving.{IsAccepted}
@@ -51,6 +52,8 @@ only_looks (command.Write fd given) = false
 only_looks (command.Pwrite fd offset given) = false
 only_looks (command.Ftruncate fd size) = false
 only_looks (command.Fchmod fd mode) = false
+only_looks (command.Fchown fd owner group) = false
+only_looks (command.Futimens fd time) = false
 only_looks _ = true
 
 -- the call opens a file, and is told of it or not
@@ -144,6 +147,6 @@ pub record PreparesOn {S : Type 0} {G : Ghosts S} (old new : System S G) (call :
 -- calls
 pub record IsPreparedAt (k : Parts) (disk : ℕ → List ℕ) (v : Volume) (call : Command) (p : PreparedCall) : Type 0 where
   pub said : IsSession k.session
-  pub timed : IfSome p.change (λ c. c.time ≡ kept_time (limits_of k.root.geometry) k.session.time)
+  pub timed : IfSome p.change (λ c. IsTimed (kept_time (limits_of k.root.geometry) k.session.time) (logged_by c))
   pub does : IfSome p.change (λ c. Does disk (inodes_of (whole disk k.root).active) k.inodes v c.prepared (logged_by c))
   pub comes : DoesBeside (limits_of k.root.geometry) k.session v (table_of k.files) call p.reply p.table p.change

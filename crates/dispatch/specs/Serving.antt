@@ -47,6 +47,7 @@ abbrev pub IsAtOnce : Descriptors → Command → Type 0
 IsAtOnce files (command.Lseek fd whence offset) = Unit {0}
 IsAtOnce files (command.Fsync fd) = Unit {0}
 IsAtOnce files (command.At seconds nanoseconds) = Unit {0}
+IsAtOnce files (command.As owner group) = Unit {0}
 IsAtOnce files command.Df = Unit {0}
 IsAtOnce files command.Statfs = Unit {0}
 IsAtOnce files (command.Close fd) = IsLinked files fd

@@ -8,16 +8,18 @@ ghost use Rattle.records.specs.Opened.{HasNumbers};
 ghost use Rattle.files.specs.Opening.{opening_reply};
 ghost use Rattle.dispatch.specs.Preparing.{PreparesCall, opening_call};
 
-use crate::prepared_call::{CallRecord, PreparedCall, PreparedChange, said, time_of};
+use crate::prepared_call::{
+    CallRecord, PreparedCall, PreparedChange, permissions_of, said, time_of,
+};
 use crate::table_move::TableMove;
 use buffers::Blocks;
 use descriptors::Descriptors;
 use files::{
-    Opening, Writing, prepare_fchmod, prepare_ftruncate, prepare_open, prepare_pwrite,
-    prepare_write,
+    Opening, Writing, prepare_fchmod, prepare_fchown, prepare_ftruncate, prepare_futimens,
+    prepare_open, prepare_pwrite, prepare_write,
 };
 use inofile::InodeFile;
-use model::{Flags, Mode, Reply, Session};
+use model::{Flags, Mode, NewTime, Reply, Session};
 use records::Failure;
 use std::alloc::Global;
 
@@ -143,11 +145,60 @@ pub(crate) fn prepare_changing_mode<'a, B: Blocks>(
     fd: u32,
     mode: Mode,
 ) -> Result<PreparedCall<'a>, Failure>
+    requires { HasNumbers inodes.old.geometry.inodes files.now }
     ensures { PreparesCall B.Blocks blocks.old blocks.new inodes.old inodes.new session.now files.now
         (command.Fchmod fd mode) result }
 {
     let now = time_of(session, inodes);
     let found = prepare_fchmod(alloc, inodes, blocks, now, files, fd, mode)?;
+    Ok(PreparedCall {
+        reply: Reply::Done,
+        change: said(found),
+        table: TableMove::Stays,
+    })
+}
+
+/// The same of a new owner and a new group, each where it is given.
+#[allow(clippy::too_many_arguments)]
+pub(crate) fn prepare_changing_owners<'a, B: Blocks>(
+    alloc: Global,
+    inodes: &mut InodeFile,
+    blocks: &mut B,
+    session: &Session,
+    files: &Descriptors,
+    fd: u32,
+    owner: Option<u32>,
+    group: Option<u32>,
+) -> Result<PreparedCall<'a>, Failure>
+    requires { HasNumbers inodes.old.geometry.inodes files.now }
+    ensures { PreparesCall B.Blocks blocks.old blocks.new inodes.old inodes.new session.now files.now
+        (command.Fchown fd owner group) result }
+{
+    let now = time_of(session, inodes);
+    let found = prepare_fchown(alloc, inodes, blocks, now, files, fd, owner, group)?;
+    Ok(PreparedCall {
+        reply: Reply::Done,
+        change: said(found),
+        table: TableMove::Stays,
+    })
+}
+
+/// The same of a new time of its data, where one is meant.
+pub(crate) fn prepare_changing_times<'a, B: Blocks>(
+    alloc: Global,
+    inodes: &mut InodeFile,
+    blocks: &mut B,
+    session: &Session,
+    files: &Descriptors,
+    fd: u32,
+    time: NewTime,
+) -> Result<PreparedCall<'a>, Failure>
+    requires { HasNumbers inodes.old.geometry.inodes files.now }
+    ensures { PreparesCall B.Blocks blocks.old blocks.new inodes.old inodes.new session.now files.now
+        (command.Futimens fd time) result }
+{
+    let now = time_of(session, inodes);
+    let found = prepare_futimens(alloc, inodes, blocks, now, files, fd, time)?;
     Ok(PreparedCall {
         reply: Reply::Done,
         change: said(found),
@@ -174,7 +225,18 @@ pub(crate) fn prepare_opening<'a, B: Blocks>(
         (opening_call tells path.now flags mode below) result }
 {
     let now = time_of(session, inodes);
-    let opening = prepare_open(alloc, inodes, blocks, now, files, path, flags, mode, below)?;
+    let permissions = permissions_of(session, inodes, mode);
+    let opening = prepare_open(
+        alloc,
+        inodes,
+        blocks,
+        now,
+        files,
+        path,
+        flags,
+        permissions,
+        below,
+    )?;
     let reply = reply_of(&opening, tells);
     let Opening {
         fd,

@@ -1,6 +1,7 @@
 //! Calls on descriptors that log nothing.
 
 ghost use Rattle.std.specs.Prelude.{ℕ, IfOk, IsTrue};
+ghost use Rattle.layout.specs.StateLimits.{limits_of};
 ghost use Rattle.model.specs.declared.limits.Limits.{Limits};
 ghost use Rattle.model.specs.declared.session.Session.{Session};
 ghost use Rattle.model.specs.Replies.{IsReplyTo};
@@ -16,7 +17,7 @@ ghost use Rattle.dispatch.specs.Serving.{TellsNoFault, TellsNoWant};
 
 use buffers::Blocks;
 use descriptors::Descriptors;
-use files::{fstat, fsync, lseek, pread, read};
+use files::{fattr, fstat, fsync, lseek, pread, read};
 use inofile::InodeFile;
 use model::{Command, Reply};
 use records::Failure;
@@ -65,8 +66,8 @@ pub(crate) fn read_open_file<B: Blocks>(
     ensures no_fault { IfOk result TellsNoFault }
     ensures kind { IfOk result (IsReplyTo call.now) }
     ensures tells { AnswersMoving B.Blocks blocks.old blocks.new inodes.old inodes.new files.old
-        files.new (λ v r. (limits : Limits) (said : Session)
-        → WouldLead limits said v (table_of files.old) call.now
+        files.new (λ v r. (said : Session)
+        → WouldLead (limits_of inodes.old.geometry) said v (table_of files.old) call.now
         (answered_reply r) v (table_of files.new) nothing) result }
 {
     match call {
@@ -81,6 +82,11 @@ pub(crate) fn read_open_file<B: Blocks>(
         Command::Fstat { fd } => {
             let stat = fstat(alloc, inodes, blocks, files, *fd)?;
             Ok(Reply::Stat(stat))
+        }
+        Command::Fattr { fd } => {
+            let told = fattr(alloc, inodes, blocks, files, *fd)?;
+            let (stat, attributes) = told;
+            Ok(Reply::Attributes { stat, attributes })
         }
         _ => unreachable!(),
     }

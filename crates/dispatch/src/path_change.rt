@@ -3,6 +3,7 @@
 ghost use Rattle.std.specs.Prelude.{◌≡◌, IsFalse};
 ghost use Rattle.layout.specs.StateLimits.{limits_of};
 ghost use Rattle.model.specs.Attributes.{KeepsTime};
+ghost use Rattle.model.specs.Sessions.{call_time};
 ghost use Rattle.model.specs.Steps.{is_reading_call};
 ghost use Rattle.model.specs.declared.command.Command.TheVariants as command;
 ghost use Rattle.model.specs.declared.command.PathCall.TheVariants as call;
@@ -11,12 +12,14 @@ ghost use Rattle.descriptors.specs.declared.table.Descriptors.{Descriptors};
 ghost use Rattle.dispatch.specs.Changing.{CallComes, RecordComes, is_writing_call, may_stay};
 ghost use Rattle.dispatch.specs.Preparing.{PreparesCall};
 
-use crate::prepared_call::{CallRecord, PreparedCall, PreparedChange, said, time_of};
+use crate::prepared_call::{
+    CallRecord, PreparedCall, PreparedChange, permissions_of, said, time_of,
+};
 use crate::table_move::TableMove;
 use buffers::Blocks;
 use calls::{Changing, Storing};
 use inofile::InodeFile;
-use model::{PathCall, Reply, Session, Time};
+use model::{LINK_MODE, Mode, PathCall, Reply, Session, Time};
 use records::Failure;
 use std::alloc::Global;
 
@@ -111,7 +114,7 @@ fn prepare_done<'a, B: Blocks>(
         session.now files (command.Path call.now) result }
 {
     let now = time_of(session, inodes);
-    let changing = prepare_change(alloc, inodes, blocks, now, call)?;
+    let changing = prepare_change(alloc, inodes, blocks, session, now, call)?;
     Ok(PreparedCall {
         reply: Reply::Done,
         change: said(changing),
@@ -124,14 +127,16 @@ fn prepare_change<B: Blocks>(
     alloc: Global,
     inodes: &mut InodeFile,
     blocks: &mut B,
+    session: &Session,
     now: Option<Time>,
     call: &PathCall<'_>,
 ) -> Result<Option<Changing>, Failure>
     requires changes { IsFalse (is_reading_call call.now) }
     requires writes_none { IsFalse (is_writing_call call.now) }
     requires now { KeepsTime (limits_of inodes.old.geometry).has_attributes now }
+    requires said { now ≡ call_time (limits_of inodes.old.geometry) session.now }
     ensures { PreparesAny now B.Blocks blocks.old blocks.new inodes.old inodes.new
-        (CallComes now call.now) result }
+        (CallComes session.now call.now) result }
 {
     match call {
         PathCall::Rename { old, new } => {
@@ -156,6 +161,23 @@ fn prepare_change<B: Blocks>(
                 true,
             )
         }
+        PathCall::Chown {
+            path,
+            follows,
+            owner,
+            group,
+        } => {
+            let path = path.as_bytes();
+            calls::change_owners(alloc, inodes, blocks, now, path, *follows, *owner, *group)
+        }
+        PathCall::Utimens {
+            path,
+            follows,
+            time,
+        } => {
+            let path = path.as_bytes();
+            calls::change_times(alloc, inodes, blocks, now, path, *follows, *time)
+        }
         PathCall::Truncate { path, size } => {
             calls::truncate(alloc, inodes, blocks, now, path.as_bytes(), *size)
         }
@@ -163,7 +185,7 @@ fn prepare_change<B: Blocks>(
             calls::set(alloc, inodes, blocks, now, path.as_bytes(), *settings)
         }
         _ => {
-            let changing = prepare_record(alloc, inodes, blocks, now, call)?;
+            let changing = prepare_record(alloc, inodes, blocks, session, now, call)?;
             Ok(Some(changing))
         }
     }
@@ -174,6 +196,7 @@ fn prepare_record<B: Blocks>(
     alloc: Global,
     inodes: &mut InodeFile,
     blocks: &mut B,
+    session: &Session,
     now: Option<Time>,
     call: &PathCall<'_>,
 ) -> Result<Changing, Failure>
@@ -181,15 +204,29 @@ fn prepare_record<B: Blocks>(
     requires writes_none { IsFalse (is_writing_call call.now) }
     requires changes_always { IsFalse (may_stay call.now) }
     requires now { KeepsTime (limits_of inodes.old.geometry).has_attributes now }
+    requires said { now ≡ call_time (limits_of inodes.old.geometry) session.now }
     ensures { Prepares now B.Blocks blocks.old blocks.new inodes.old inodes.new
-        (RecordComes now call.now) result }
+        (RecordComes session.now call.now) result }
 {
     match call {
         PathCall::Mkdir { path, mode } => {
-            calls::make_directory(alloc, inodes, blocks, now, path.as_bytes(), *mode)
+            let permissions = permissions_of(session, inodes, *mode);
+            let path = path.as_bytes();
+            calls::make_directory(alloc, inodes, blocks, now, path, permissions)
         }
         PathCall::Symlink { text, path } => {
-            calls::symlink(alloc, inodes, blocks, now, text.as_bytes(), path.as_bytes())
+            let mode = Mode::new(LINK_MODE).unwrap();
+            let permissions = permissions_of(session, inodes, mode);
+            let text = text.as_bytes();
+            calls::symlink(
+                alloc,
+                inodes,
+                blocks,
+                now,
+                text,
+                path.as_bytes(),
+                permissions,
+            )
         }
         PathCall::Link { old, new } => {
             calls::link(alloc, inodes, blocks, now, old.as_bytes(), new.as_bytes())

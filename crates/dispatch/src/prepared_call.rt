@@ -1,10 +1,10 @@
 //! Calls that are prepared: what they are to do, of which nothing is seen yet.
 
-ghost use Rattle.std.specs.Prelude.{◌≡◌, ◌≤◌, ◌+◌, Bool, length};
+ghost use Rattle.std.specs.Prelude.{◌≡◌, ◌≤◌, ◌+◌, Bool, is_some, length};
 ghost use Rattle.layout.specs.StateLimits.{limits_of};
-ghost use Rattle.model.specs.Attributes.{KeepsTime};
-ghost use Rattle.model.specs.Sessions.{kept_time};
-ghost use Rattle.layout.specs.Record.{body_of, change_of, FitsTime, IsChange, KeepsLimits, stamped, write};
+ghost use Rattle.model.specs.Attributes.{FitAttributes, KeepsTime, new_attributes};
+ghost use Rattle.model.specs.Sessions.{call_time, new_permissions};
+ghost use Rattle.layout.specs.Record.{body_of, change_of, FitsAttributes, FitsTime, IsChange, KeepsLimits, stamped, write};
 ghost use Rattle.model.specs.declared.limits.TheConstants.{TRANSFER_BYTES};
 ghost use Rattle.dispatch.specs.Preparing.{KeepsRecord, recorded, said_change};
 
@@ -12,7 +12,7 @@ use crate::table_move::TableMove;
 use calls::{Changing, OwnedChange};
 use inofile::InodeFile;
 use layout::{Edit, InodeNumber, Record};
-use model::{Reply, Session, Time};
+use model::{Mode, Permissions, Reply, Session, Time};
 use records::Prepared;
 
 /// The record of a call.
@@ -53,6 +53,7 @@ impl CallRecord<'_> {
         ensures says { change_of result ≡ stamped time (recorded self.now) }
         ensures limits { KeepsLimits (change_of result) }
         ensures is { (has_attributes : Bool) → FitsTime has_attributes time
+            → FitsAttributes has_attributes (recorded self.now)
             → IsChange has_attributes (change_of result) }
         ensures short { length (body_of result) ≤ 29 + TRANSFER_BYTES }
     {
@@ -89,13 +90,23 @@ fn write_record(time: Option<Time>, number: InodeNumber, offset: u64, bytes: &[u
 
 /// The time of a session's calls, where these objects have times.
 pub(crate) fn time_of(session: &Session, inodes: &InodeFile) -> Option<Time>
-    ensures is { result ≡ kept_time (limits_of inodes.now.geometry) session.now.time }
+    ensures is { result ≡ call_time (limits_of inodes.now.geometry) session.now }
     ensures keeps { KeepsTime (limits_of inodes.now.geometry).has_attributes result }
 {
     let time = session.time;
     time.fits();
     let session = *session;
     session.now(&inodes.limits())
+}
+
+/// The permissions of what a session's calls make with a mode, among these objects.
+pub(crate) fn permissions_of(session: &Session, inodes: &InodeFile, mode: Mode) -> Permissions
+    ensures is { result ≡ new_permissions (limits_of inodes.now.geometry) session.now mode }
+    ensures kept { FitAttributes (is_some (call_time (limits_of inodes.now.geometry) session.now))
+        (new_attributes result) }
+{
+    let session = *session;
+    session.permissions(&inodes.limits(), mode)
 }
 
 /// A change whose record says what it does, if there is one.

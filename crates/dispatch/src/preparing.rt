@@ -5,7 +5,8 @@ ghost use Rattle.records.specs.Opened.{HasNumbers};
 ghost use Rattle.dispatch.specs.Preparing.{PreparesCall, only_looks};
 
 use crate::open_file_change::{
-    prepare_changing_mode, prepare_opening, prepare_truncating, prepare_writing, prepare_writing_at,
+    prepare_changing_mode, prepare_changing_owners, prepare_changing_times, prepare_opening,
+    prepare_truncating, prepare_writing, prepare_writing_at,
 };
 use crate::path_change::prepare_path_call;
 use crate::prepared_call::PreparedCall;
@@ -76,6 +77,12 @@ pub(crate) fn prepare_call<'a, B: Blocks>(
         }
         Command::Fchmod { fd, mode } => {
             prepare_changing_mode(alloc, inodes, blocks, session, files, *fd, *mode)
+        }
+        Command::Fchown { fd, owner, group } => {
+            prepare_changing_owners(alloc, inodes, blocks, session, files, *fd, *owner, *group)
+        }
+        Command::Futimens { fd, time } => {
+            prepare_changing_times(alloc, inodes, blocks, session, files, *fd, *time)
         }
         _ => unreachable!(),
     }

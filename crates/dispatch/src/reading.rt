@@ -24,6 +24,7 @@ pub(crate) fn is_reading(call: &PathCall<'_>) -> bool
         PathCall::Entries { .. } => true,
         PathCall::Stat { .. } => true,
         PathCall::Lstat { .. } => true,
+        PathCall::Attr { .. } => true,
         PathCall::Readlink { .. } => true,
         PathCall::Get { .. } => true,
         _ => false,
@@ -60,6 +61,11 @@ pub(crate) fn read<B: Blocks>(
         PathCall::Lstat { path } => {
             let stat = calls::lstat(alloc, inodes, blocks, path.as_bytes())?;
             Ok(Reply::Stat(stat))
+        }
+        PathCall::Attr { path, follows } => {
+            let told = calls::attr(alloc, inodes, blocks, path.as_bytes(), *follows)?;
+            let (stat, attributes) = told;
+            Ok(Reply::Attributes { stat, attributes })
         }
         PathCall::Readlink { path } => {
             let text = calls::readlink(alloc, inodes, blocks, path.as_bytes())?;

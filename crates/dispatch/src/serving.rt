@@ -11,7 +11,7 @@ ghost use Rattle.dispatch.specs.Waiting.{WaitsBehind};
 use crate::changing::change;
 use crate::open_files::{answer_at_once, close_file, look_at_open_file};
 use crate::reading::{is_reading, read, tell_extent};
-use crate::saying::say_time;
+use crate::saying::{say_owner, say_time};
 use crate::snapshot_reading::{list_snapshots, look_within};
 use crate::waiting::change_waiting;
 use buffers::BlockError;
@@ -65,6 +65,8 @@ fn looks_only(call: &Command<'_>) -> bool
         Command::Pwrite { .. } => false,
         Command::Ftruncate { .. } => false,
         Command::Fchmod { .. } => false,
+        Command::Fchown { .. } => false,
+        Command::Futimens { .. } => false,
         _ => true,
     }
 }
@@ -122,6 +124,7 @@ fn look<S: Station>(system: &mut System<S>, call: &Command<'_>) -> Result<Reply,
             seconds,
             nanoseconds,
         } => Ok(say_time(system, *seconds, *nanoseconds)),
+        Command::As { owner, group } => Ok(say_owner(system, *owner, *group)),
         Command::Lseek { .. } => Ok(answer_at_once(system, call)),
         Command::Fsync { .. } => Ok(answer_at_once(system, call)),
         Command::Close { fd } => close_file(system, *fd),

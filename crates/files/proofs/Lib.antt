@@ -5,6 +5,6 @@ pub mod CloseLaws
 pub mod ReadLaws
 pub mod WriteLaws
 pub mod FtruncateLaws
-pub mod FchmodLaws
+pub mod AttributeLaws
 pub mod NameLaws
 pub mod OpeningLaws

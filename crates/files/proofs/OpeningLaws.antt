@@ -9,6 +9,7 @@ use Rattle.model.specs.Records.{applied, work_of}
 use Rattle.model.specs.Room.{Need, logs, nothing}
 use Rattle.model.specs.Trees.{Tree, Description}
 use Rattle.model.specs.Volumes.{Volume, swept, tree_of}
+use Rattle.model.specs.declared.attributes.Permissions.{Permissions}
 use Rattle.model.specs.declared.command.Flags.{Flags}
 use Rattle.model.specs.declared.errno.Errno.{Errno}
 use Rattle.model.specs.declared.errno.Errno.TheVariants.{EMFILE}
@@ -34,7 +35,7 @@ use Rattle.files.specs.Opening.{OpensDescriptor, OpensDescriptorOver, opening_re
 use Rattle.files.specs.declared.opening.Opening.{Opening}
 use Rattle.files.proofs.OpenLaws.{passes, refused_by}
 
-module _ (below : ℕ) (limits : Limits) (now : Option Time) (v : Volume) (table : Descriptors) (text : List ℕ) (flags : Flags) (mode : ℕ) where
+module _ (below : ℕ) (limits : Limits) (now : Option Time) (v : Volume) (table : Descriptors) (text : List ℕ) (flags : Flags) (permissions : Permissions) where
   abbrev t : Tree
   t = tree_with table v
 
@@ -42,10 +43,10 @@ module _ (below : ℕ) (limits : Limits) (now : Option Time) (v : Volume) (table
   tests = text_tests_then limits (open_tests flags) text
 
   abbrev along : Bool → ℕ → Outcome
-  along = opens_along limits now t text flags mode
+  along = opens_along limits now t text flags permissions
 
   abbrev outcome : Bool → Outcome
-  outcome tells = opens tells below limits now t text flags mode
+  outcome tells = opens tells below limits now t text flags permissions
 
   abbrev free_fd : Option ℕ
   free_fd = lowest_free (table_of table) (min below OPEN_FILES)

@@ -20,7 +20,7 @@ use Rattle.records.specs.Shown.{NeverDamaged, OnVolumes}
 use Rattle.records.proofs.StandLaws.{no_look}
 use Rattle.records.specs.declared.failure.Failure.{Failure}
 use Rattle.records.specs.declared.failure.Failure.TheVariants.{Refused, Read}
-use Rattle.calls.specs.Preparing.{Answer, PreparesWith}
+use Rattle.calls.specs.Preparing.{Answer, IsTimed, PreparesWith}
 use Rattle.calls.specs.Refusals.{is_path_refusal}
 use Rattle.calls.specs.Seeing.{Tells}
 use Rattle.calls.specs.declared.changed.Changing.{Changing}
@@ -34,7 +34,7 @@ use Rattle.files.specs.Reading.{AnswersMoving}
 module _ {B T : Type 0} {changes : Changes T} {W : T → Type 0} {now : Option Time} {G : Ghosts B} {a b : B} {s t : InodeFile} {Told : Result (Result T Errno) BlockError → Type 0} where
   -- the call isn't refused
   pub grants : {X : Type 0} {x : X} {y : T} → Looks {T = X} {E = BlockError} G IsFault a b s t (Ok x) → W y → changes y (λ p change. IsReady t p)
-      → changes y (λ p change. change.time ≡ now) → OnVolumes G a s (λ disk settled v. changes y (λ p change. Does disk settled t v p change)) → Told (Ok (Ok y)) → PreparesTold changes W now G a b s t Told (Ok y)
+      → changes y (λ p change. IsTimed now change) → OnVolumes G a s (λ disk settled v. changes y (λ p change. Does disk settled t v p change)) → Told (Ok (Ok y)) → PreparesTold changes W now G a b s t Told (Ok y)
   grants looks within ready timed does says = record {
     looks = looks_ok looks;
     own = tt;

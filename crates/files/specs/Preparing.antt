@@ -1,5 +1,5 @@
 -- What calls on descriptors promise that prepare a change.
-use Rattle.std.specs.Prelude.{◌≡◌, Option, None, Result, IfErr, IfOk, IfSome, IsTrue}
+use Rattle.std.specs.Prelude.{Option, None, Result, IfErr, IfOk, IfSome, IsTrue}
 use Rattle.model.specs.Records.{Change}
 use Rattle.model.specs.Volumes.{Volume}
 use Rattle.model.specs.declared.errno.Errno.{Errno}
@@ -16,6 +16,7 @@ use Rattle.records.specs.Shown.{NeverDamaged, OnVolumes}
 use Rattle.records.specs.declared.failure.Failure.{Failure}
 use Rattle.records.specs.declared.prepared.Prepared.{Prepared}
 use Rattle.calls.specs.Changing.{change_by}
+use Rattle.calls.specs.Preparing.{IsTimed}
 use Rattle.calls.specs.Refusals.{is_path_refusal}
 use Rattle.calls.specs.declared.changed.Changing.{Changing}
 use Rattle.descriptors.specs.declared.table.Descriptors.{Descriptors}
@@ -38,7 +39,7 @@ pub record PreparesTold {B T : Type 0} (changes : Changes T) (IsWithin : T → T
   pub own : IfOk (read_outcome result) (λ r. IfErr r (λ e. IsTrue (is_path_refusal e)))
   pub within : IfOk result IsWithin
   pub ready : IfOk result (λ x. changes x (λ p change. IsReady t p))
-  pub timed : IfOk result (λ x. changes x (λ p change. change.time ≡ now))
+  pub timed : IfOk result (λ x. changes x (λ p change. IsTimed now change))
   pub does : OnVolumes G blocks s (λ disk settled v. IfOk result (λ x. changes x (λ p change. Does disk settled t v p change)))
   pub answers : Told (read_outcome result)
   pub damaged : NeverDamaged G blocks s (read_outcome result)

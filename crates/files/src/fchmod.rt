@@ -4,6 +4,7 @@ ghost use Rattle.layout.specs.StateLimits.{limits_of};
 ghost use Rattle.model.specs.Attributes.{KeepsTime};
 ghost use Rattle.model.specs.Descriptors.{changes_open_mode};
 ghost use Rattle.paths.specs.Loads.{IsAny};
+ghost use Rattle.records.specs.Opened.{HasNumbers};
 ghost use Rattle.calls.specs.Changing.{ComesOrStays};
 ghost use Rattle.descriptors.specs.Tables.{table_of};
 ghost use Rattle.files.specs.Opened.{tree_with};
@@ -31,6 +32,7 @@ pub fn prepare_fchmod<B: Blocks>(
     mode: Mode,
 ) -> Result<Option<Changing>, Failure>
     requires now { KeepsTime (limits_of inodes.old.geometry).has_attributes now }
+    requires numbers { HasNumbers inodes.old.geometry.inodes table.now }
     ensures { PreparesOpen of_changing IsAny now B.Blocks blocks.old blocks.new inodes.old
         inodes.new table.now (λ v. ComesOrStays (changes_open_mode now (tree_with table.now v) fd
         mode) (limits_of inodes.old.geometry) v (table_of table.now)) result }

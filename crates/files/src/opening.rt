@@ -1,8 +1,8 @@
 //! Opening a file.
 
-ghost use Rattle.std.specs.Prelude.{◌≡◌, IfSome, IsTrue};
+ghost use Rattle.std.specs.Prelude.{◌≡◌, IfSome, IsTrue, is_some};
 ghost use Rattle.layout.specs.StateLimits.{limits_of};
-ghost use Rattle.model.specs.Attributes.{KeepsTime};
+ghost use Rattle.model.specs.Attributes.{FitAttributes, KeepsTime, new_attributes};
 ghost use Rattle.model.specs.Descriptors.{open_tests, opens};
 ghost use Rattle.model.specs.Paths.{first_refusal};
 ghost use Rattle.calls.specs.Refusals.{is_path_refusal};
@@ -15,7 +15,7 @@ use buffers::Blocks;
 use calls::{Changing, open_along, refusal_of_path};
 use descriptors::{Descriptors, OpenFile};
 use inofile::InodeFile;
-use model::{Errno, FileType, Flags, Mode, Stat, Time};
+use model::{Errno, FileType, Flags, Permissions, Stat, Time};
 use paths::Parts;
 use records::Failure;
 use std::alloc::Global;
@@ -50,15 +50,16 @@ pub fn prepare_open<B: Blocks>(
     table: &Descriptors,
     path: &[u8],
     flags: Flags,
-    mode: Mode,
+    permissions: Permissions,
     below: u32,
 ) -> Result<Opening, Failure>
     requires now { KeepsTime (limits_of inodes.old.geometry).has_attributes now }
+    requires kept { FitAttributes (is_some now) (new_attributes permissions) }
     ensures { PreparesOpen of_opening (CanOpen table.now inodes.old.geometry.inodes) now B.Blocks
         blocks.old blocks.new inodes.old inodes.new table.now
         (λ v. OpensDescriptor (λ tells. opens tells below (limits_of inodes.old.geometry) now
-        (tree_with table.now v) path.now flags mode) (limits_of inodes.old.geometry) v table.now)
-        result }
+        (tree_with table.now v) path.now flags permissions) (limits_of inodes.old.geometry) v
+        table.now) result }
 {
     let parts = Parts::of(alloc, path)?;
     if let Some(errno) = refusal_of_path(inodes, path, &parts) {
@@ -70,7 +71,7 @@ pub fn prepare_open<B: Blocks>(
     let Some(fd) = table.lowest_free(below) else {
         return Err(Failure::Refused(Errno::EMFILE));
     };
-    let opened = open_along(alloc, inodes, blocks, now, path, parts, flags, mode)?;
+    let opened = open_along(alloc, inodes, blocks, now, path, parts, flags, permissions)?;
     let stat = Stat {
         number: opened.number.get(),
         kind: FileType::File,

@@ -1,16 +1,20 @@
 -- The numbers in use behind each call come from before, or are such as it may give.
-use Rattle.std.proofs.Common.{◌≡◌, inr, ℕ, ℤ, pos, ◌+◌, List, [], ◌∷◌, ◌++◌, length, Bool, true, false, not, ◌&&◌, ◌||◌, is_some, Option, Some, None, refl, sym, subst}
+use Rattle.std.proofs.Common.{◌≡◌, inr, ℕ, ℤ, pos, ◌+◌, List, [], ◌∷◌, ◌++◌, length, Bool, true, false, not, ◌&&◌, ◌||◌, is_none, is_some, Option, Some, None, refl, sym, subst}
 use Rattle.std.specs.Prelude.{◌==◌, if◌then◌else◌, ◌+ℤ◌, nat_abs, nat_le, nat_lt, min}
 use Rattle.model.specs.declared.limits.TheConstants.{ENTRIES_TOLD, GREATEST_OFFSET, OPEN_FILES}
 use Rattle.model.specs.declared.errno.Errno.TheVariants.{ENOENT, ENOTDIR, EISDIR, EEXIST, EINVAL, EPERM, EBUSY, EBADF, EMFILE, EMLINK, ENOTEMPTY, EFBIG, EOVERFLOW}
 use Rattle.model.specs.declared.reply.Reply.TheVariants as reply
+use Rattle.model.specs.Attributes.{set_modified, set_owners}
+use Rattle.model.specs.declared.attributes.Attributes.{Attributes}
+use Rattle.model.specs.declared.attributes.Permissions.{Permissions}
 use Rattle.model.specs.declared.command.Flags.{Flags}
+use Rattle.model.specs.declared.command.NewTime.{NewTime}
 use Rattle.model.specs.declared.command.Settings.{Settings}
 use Rattle.model.specs.declared.command.Whence.{Whence}
 use Rattle.model.specs.declared.limits.Limits.{Limits}
 use Rattle.model.specs.Paths.{Name, Path, text_tests, text_tests_then, new_text_tests, is_empty, is_root_text, path_eq}
 use Rattle.model.specs.Trees.{Tree, Object, directory, symlink, file, is_directory, Description, number_of_object}
-use Rattle.model.specs.Edits.{contents, marked, number_at_path, resized, written, read_at, with_object, without_object, with_mode, with_bytes, with_descriptor, with_directory, with_symlink, with_file, moved}
+use Rattle.model.specs.Edits.{changing_attributes, contents, marked, number_at_path, resized, written, read_at, with_object, without_object, with_mode, with_bytes, with_descriptor, with_directory, with_symlink, with_file, moved}
 use Rattle.model.specs.Touches.{Touches, touches_entry, touches_move, touches_object}
 use Rattle.model.specs.declared.attributes.Touch.{Touch}
 use Rattle.model.specs.declared.attributes.Touch.TheVariants.{Data, Status}
@@ -32,6 +36,12 @@ module _ (limits : Limits) (now : Option Time) (t : Tree) (Given : ℕ → Type 
 
   pub gives_stat : (follow : Bool) (path : List ℕ) → GivesOnly t Given (reading.stats limits t follow path)
   gives_stat follow path = gives_at t Given (text_tests limits path) follow path _ (λ p o comes. gives_tells o)
+
+  gives_told : (o : Object) → GivesOnly t Given (reading.tells_attributes t o)
+  gives_told o = gives_links t Given t o _ (λ links. gives_same t Given _)
+
+  pub gives_attr : (follow : Bool) (path : List ℕ) → GivesOnly t Given (reading.attributes limits t follow path)
+  gives_attr follow path = gives_at t Given (reading.attribute_tests limits ++ text_tests limits path) follow path _ (λ p o comes. gives_told o)
 
   pub gives_list : (path : List ℕ) → GivesOnly t Given (reading.lists limits t path)
   gives_list path =
@@ -84,6 +94,29 @@ module _ (limits : Limits) (now : Option Time) (t : Tree) (Given : ℕ → Type 
       (λ n. gives_changed t Given _ (changing.with_changed_mode now n mode t) _ (come_bits n mode))
       (λ n text. gives_never t Given)
       (λ n is. gives_changed t Given _ (changing.with_changed_mode now n mode t) _ (come_bits n mode)))
+
+  -- attributes of an object
+  come_attributes : (n : ℕ) (f : Attributes → Attributes) → AllCome t Given (marked now (touches_object Status n) (changing_attributes n f t))
+  come_attributes n f = come_marked t Given now (touches_object Status n) (changing_attributes n f t) (come_same t Given)
+
+  gives_attributes : (n : ℕ) (f : Attributes → Attributes) → GivesOnly t Given (changing.changes_attributes now t n f)
+  gives_attributes n f = gives_changed t Given _ (marked now (touches_object Status n) (changing_attributes n f t)) _ (come_attributes n f)
+
+  gives_owners : (n : ℕ) (owner group : Option ℕ) → GivesOnly t Given (changing.gives_owners now t n owner group)
+  gives_owners n owner group = gives_either t Given (is_none owner && is_none group) _ _ (gives_same t Given _) (gives_attributes n (set_owners owner group))
+
+  pub gives_chown : (follow : Bool) (path : List ℕ) (owner group : Option ℕ) → GivesOnly t Given (changing.changes_owners limits now t follow path owner group)
+  gives_chown follow path owner group =
+      gives_at t Given (reading.attribute_tests limits ++ text_tests limits path) follow path _ (λ p o comes. gives_owners (number_of_object o) owner group)
+
+  gives_time : (n : ℕ) (time : Option Time) → GivesOnly t Given (changing.gives_time now t n time)
+  gives_time n None = gives_same t Given _
+  gives_time n (Some time) = gives_attributes n (set_modified time)
+
+  pub gives_utimens : (follow : Bool) (path : List ℕ) (time : NewTime) → GivesOnly t Given (changing.changes_times limits now t follow path time)
+  gives_utimens follow path time =
+      gives_at t Given (reading.attribute_tests limits ++ text_tests limits path ++ changing.time_tests time) follow path _
+      (λ p o comes. gives_time (number_of_object o) (changing.meant_time now time))
 
   gives_mode : (n : ℕ) (mode : Option ℕ) → GivesOnly t Given (changing.sets_mode now t n mode)
   gives_mode n None = gives_same t Given _
@@ -211,8 +244,20 @@ module _ (limits : Limits) (now : Option Time) (t : Tree) (Given : ℕ → Type 
   pub gives_fchmod : (fd mode : ℕ) → GivesOnly t Given (descriptors.changes_open_mode now t fd mode)
   gives_fchmod fd mode = gives_described t Given fd _ (λ f at_fd. gives_changed t Given _ (changing.with_changed_mode now f.number mode t) _ (come_bits f.number mode))
 
+  pub gives_fchown : (fd : ℕ) (owner group : Option ℕ) → GivesOnly t Given (descriptors.changes_open_owners limits now t fd owner group)
+  gives_fchown fd owner group =
+      gives_tested t Given (reading.attribute_tests limits) _ (λ e. gives_described t Given fd _ (λ f at_fd. gives_owners f.number owner group))
+
+  pub gives_futimens : (fd : ℕ) (time : NewTime) → GivesOnly t Given (descriptors.changes_open_times limits now t fd time)
+  gives_futimens fd time =
+      gives_tested t Given (reading.attribute_tests limits) _ (λ e. gives_described t Given fd _ (λ f at_fd.
+      gives_tested t Given (changing.time_tests time) _ (λ e. gives_time f.number (changing.meant_time now time))))
+
   pub gives_fstat : (fd : ℕ) → GivesOnly t Given (descriptors.stats_open t fd)
   gives_fstat fd = gives_described t Given fd _ (λ f at_fd. gives_tells (file f.number))
+
+  pub gives_fattr : (fd : ℕ) → GivesOnly t Given (descriptors.attributes_open limits t fd)
+  gives_fattr fd = gives_tested t Given (reading.attribute_tests limits) _ (λ e. gives_described t Given fd _ (λ f at_fd. gives_told (file f.number)))
 
   pub gives_fsync : (fd : ℕ) → GivesOnly t Given (descriptors.syncs_open t fd)
   gives_fsync fd = gives_described t Given fd _ (λ f at_fd. gives_same t Given _)
@@ -225,13 +270,13 @@ module _ (limits : Limits) (now : Option Time) (t : Tree) (Given : ℕ → Type 
       (λ p name. gives_place t Given limits p _ (gives_fresh t Given limits _ (λ n fresh. gives_changed t Given reply.Done (changing.entered now Data n p t (make (p ++ name ∷ []) n t)) (logs adds_name)
       (come_entered Data n p (make (p ++ name ∷ []) n t) (makes (p ++ name ∷ []) n fresh))))))
 
-  pub gives_mkdir : (path : List ℕ) (mode : ℕ) → ((n : ℕ) → IsFresh limits t n → Given n) → GivesOnly t Given (changing.makes_directory limits now t path mode)
-  gives_mkdir path mode given = gives_creates path (λ p n. with_directory p n mode) (λ p n fresh. come_placed t Given p (directory n) (inr (given n fresh)))
+  pub gives_mkdir : (path : List ℕ) (permissions : Permissions) → ((n : ℕ) → IsFresh limits t n → Given n) → GivesOnly t Given (changing.makes_directory limits now t path permissions)
+  gives_mkdir path permissions given = gives_creates path (λ p n. with_directory p n permissions) (λ p n fresh. come_placed t Given p (directory n) (inr (given n fresh)))
 
-  pub gives_symlink : (text path : List ℕ) → ((n : ℕ) → IsFresh limits t n → Given n) → GivesOnly t Given (changing.makes_symlink limits now t text path)
-  gives_symlink text path given =
-      gives_tested t Given (changing.link_text_tests limits text) (changing.creates limits now t path (λ p n. with_symlink p n text)) (λ e.
-      gives_creates path (λ p n. with_symlink p n text) (λ p n fresh. come_placed t Given p (symlink n text) (inr (given n fresh))))
+  pub gives_symlink : (text path : List ℕ) (permissions : Permissions) → ((n : ℕ) → IsFresh limits t n → Given n) → GivesOnly t Given (changing.makes_symlink limits now t text path permissions)
+  gives_symlink text path permissions given =
+      gives_tested t Given (changing.link_text_tests limits text) (changing.creates limits now t path (λ p n. with_symlink p n permissions text)) (λ e.
+      gives_creates path (λ p n. with_symlink p n permissions text) (λ p n fresh. come_placed t Given p (symlink n text) (inr (given n fresh))))
 
   gives_opened : (tells : Bool) (n : ℕ) (flags : Flags) (fd : ℕ) (u : Tree) (need : Need) → AllCome t Given u → Comes t Given n → GivesOnly t Given (descriptors.opens_file tells n flags fd u need)
   gives_opened tells n flags fd u need comes named =
@@ -251,27 +296,27 @@ module _ (limits : Limits) (now : Option Time) (t : Tree) (Given : ℕ → Type 
       (gives_opened tells n flags fd (changing.truncated_to now n 0 t) (changing.need_of_truncate now n 0 t) (come_resized t Given now n 0) named)
       (gives_opened tells n flags fd t nothing (come_same t Given) named)))
 
-  gives_opens_new : (tells : Bool) (p : Path) (name : Name) (flags : Flags) (mode fd : ℕ) → (flags.creates ≡ true → (n : ℕ) → IsFresh limits t n → Given n) → GivesOnly t Given (descriptors.opens_new tells limits now t p name flags mode fd)
-  gives_opens_new tells p name flags mode fd given =
+  gives_opens_new : (tells : Bool) (p : Path) (name : Name) (flags : Flags) (permissions : Permissions) (fd : ℕ) → (flags.creates ≡ true → (n : ℕ) → IsFresh limits t n → Given n) → GivesOnly t Given (descriptors.opens_new tells limits now t p name flags permissions fd)
+  gives_opens_new tells p name flags permissions fd given =
       gives_tested t Given ((not flags.creates, ENOENT) ∷ []) _ (λ e.
       let creates = not_false flags.creates (all_passed ((not flags.creates, ENOENT) ∷ []) e).0 in
       gives_place t Given limits p _ (gives_fresh t Given limits _ (λ n fresh.
       let named : Comes t Given n = inr (given creates n fresh) in
-      gives_opened tells n flags fd (changing.entered now Data n p t (with_file (p ++ name ∷ []) n mode t)) (logs adds_name)
-      (come_entered Data n p (with_file (p ++ name ∷ []) n mode t) (come_placed t Given (p ++ name ∷ []) (file n) named)) named)))
+      gives_opened tells n flags fd (changing.entered now Data n p t (with_file (p ++ name ∷ []) n permissions t)) (logs adds_name)
+      (come_entered Data n p (with_file (p ++ name ∷ []) n permissions t) (come_placed t Given (p ++ name ∷ []) (file n) named)) named)))
     where
       not_false : (b : Bool) → not b ≡ false → b ≡ true
       not_false true e = refl
       not_false false e = sym e
 
-  pub gives_open : (tells : Bool) (below : ℕ) (path : List ℕ) (flags : Flags) (mode : ℕ) → (flags.creates ≡ true → (n : ℕ) → IsFresh limits t n → Given n) → GivesOnly t Given (descriptors.opens tells below limits now t path flags mode)
-  gives_open tells below path flags mode given =
+  pub gives_open : (tells : Bool) (below : ℕ) (path : List ℕ) (flags : Flags) (permissions : Permissions) → (flags.creates ≡ true → (n : ℕ) → IsFresh limits t n → Given n) → GivesOnly t Given (descriptors.opens tells below limits now t path flags permissions)
+  gives_open tells below path flags permissions given =
       let follow : Bool = not (flags.creates && flags.exclusive) in
       gives_tested t Given (text_tests_then limits (descriptors.open_tests flags) path) _ (λ e.
       elim (lowest_free t.descriptors (min below OPEN_FILES)) as (λ o. GivesOnly t Given (elim o as (λ _. Outcome) [
         | None ↦ refuses t EMFILE
-        | Some fd ↦ goes_along t follow path (λ p o. descriptors.opens_object tells now t o flags fd) (λ p name. descriptors.opens_new tells limits now t p name flags mode fd)
+        | Some fd ↦ goes_along t follow path (λ p o. descriptors.opens_object tells now t o flags fd) (λ p name. descriptors.opens_new tells limits now t p name flags permissions fd)
       ])) [
         | None ↦ gives_refused t Given EMFILE
-        | Some fd ↦ gives_along t Given follow path _ _ (λ p o comes. gives_opens_object tells o flags fd comes) (λ p name. gives_opens_new tells p name flags mode fd given)
+        | Some fd ↦ gives_along t Given follow path _ _ (λ p o comes. gives_opens_object tells o flags fd comes) (λ p name. gives_opens_new tells p name flags permissions fd given)
       ])

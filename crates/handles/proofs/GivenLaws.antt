@@ -2,7 +2,8 @@
 use Rattle.std.proofs.Common.{◌≡◌, ◌⊎◌, inl, inr, ℕ, List, [], ◌∷◌, map, true, false, not, is_none, Some, None, refl, sym, ap, subst, ◌∙◌}
 use Rattle.std.specs.Prelude.{ℤ, IsFalse, IsTrue, MatchBool}
 use Rattle.std.proofs.lemmas.Bool.{false≢true}
-use Rattle.model.specs.declared.limits.TheConstants.{OPEN_FILES}
+use Rattle.model.specs.Reading.{attribute_tests}
+use Rattle.model.specs.declared.limits.TheConstants.{LINK_MODE, OPEN_FILES}
 use Rattle.model.specs.declared.errno.Errno.TheVariants.{EBUSY, EIO, EROFS, FAILED, NOSNAP}
 use Rattle.model.specs.declared.reply.Reply.{Reply}
 use Rattle.model.specs.declared.reply.Reply.TheVariants as reply
@@ -14,8 +15,8 @@ use Rattle.model.specs.Circumstances.{Circumstances, IsDone, IsSure, IsExcused, 
 use Rattle.model.specs.Outcomes.{Outcome, IsFresh}
 use Rattle.model.specs.Paths.{Name, Tests, first_refusal}
 use Rattle.model.specs.Room.{Room, Need}
-use Rattle.model.specs.States.{State, Mark, going, failed, now_of, with_snapshots, as_failed}
-use Rattle.model.specs.Steps.{Step, says, passing, on_tree, calls, is_reading_call, frozen, take_tests, takes, deletes, has_open_below, restores, views, at_tests, sets_time, WouldStep}
+use Rattle.model.specs.States.{State, Mark, going, failed, now_of, permissions_in, with_snapshots, as_failed}
+use Rattle.model.specs.Steps.{Step, says, passing, on_tree, calls, is_reading_call, frozen, take_tests, takes, deletes, has_open_below, restores, views, at_tests, sets_owner, sets_time, WouldStep}
 use Rattle.model.specs.Trees.{Tree, IsUsed}
 use Rattle.handles.specs.Given.{may_make, has_restored, GivesFresh, FreshNumbersAreGiven}
 use Rattle.handles.proofs.CallLemmas as from
@@ -27,21 +28,24 @@ module _ (s : State) where
   Given asked n = IsTrue (may_make asked) × IsFresh s.limits s.tree n
 
   -- the calls by path
-  gives_path : (c : PathCall) → GivesOnly s.tree (Given (command.Path c)) (calls s.limits (now_of s) s.tree c)
+  gives_path : (c : PathCall) → GivesOnly s.tree (Given (command.Path c)) (calls s.limits s.session s.tree c)
   gives_path (call.List path) = from.gives_list s.limits (now_of s) s.tree _ path
   gives_path (call.Entries path after count) = from.gives_entries s.limits (now_of s) s.tree _ path after count
   gives_path (call.Stat path) = from.gives_stat s.limits (now_of s) s.tree _ true path
   gives_path (call.Lstat path) = from.gives_stat s.limits (now_of s) s.tree _ false path
+  gives_path (call.Attr path follow) = from.gives_attr s.limits (now_of s) s.tree _ follow path
   gives_path (call.Readlink path) = from.gives_readlink s.limits (now_of s) s.tree _ path
   gives_path (call.Get path offset count) = from.gives_get s.limits (now_of s) s.tree _ path offset count
-  gives_path (call.Mkdir path mode) = from.gives_mkdir s.limits (now_of s) s.tree _ path mode (λ n fresh. (refl, fresh))
+  gives_path (call.Mkdir path mode) = from.gives_mkdir s.limits (now_of s) s.tree _ path (permissions_in s mode) (λ n fresh. (refl, fresh))
   gives_path (call.Rmdir path) = from.gives_rmdir s.limits (now_of s) s.tree _ path
   gives_path (call.Unlink path) = from.gives_unlink s.limits (now_of s) s.tree _ path
   gives_path (call.Link old path) = from.gives_link s.limits (now_of s) s.tree _ old path
-  gives_path (call.Symlink text path) = from.gives_symlink s.limits (now_of s) s.tree _ text path (λ n fresh. (refl, fresh))
+  gives_path (call.Symlink text path) = from.gives_symlink s.limits (now_of s) s.tree _ text path (permissions_in s LINK_MODE) (λ n fresh. (refl, fresh))
   gives_path (call.Rename old path) = from.gives_rename s.limits (now_of s) s.tree _ false old path
   gives_path (call.RenameNew old path) = from.gives_rename s.limits (now_of s) s.tree _ true old path
   gives_path (call.Chmod path mode) = from.gives_chmod s.limits (now_of s) s.tree _ path mode
+  gives_path (call.Chown path follow owner group) = from.gives_chown s.limits (now_of s) s.tree _ follow path owner group
+  gives_path (call.Utimens path follow time) = from.gives_utimens s.limits (now_of s) s.tree _ follow path time
   gives_path (call.Truncate path size) = from.gives_truncate s.limits (now_of s) s.tree _ path size
   gives_path (call.Store path offset given) = from.gives_store s.limits (now_of s) s.tree _ path offset given
   gives_path (call.Set path settings) = from.gives_set s.limits (now_of s) s.tree _ path settings
@@ -101,7 +105,7 @@ module _ (s : State) where
   keeps_view name c =
       elim (frozen s name) as (λ o. StepKeeps (command.Within name c) (elim o as (λ _. Step) [
         | None ↦ says s (reply.Refused NOSNAP)
-        | Some pair ↦ passing s ((not (is_reading_call c), EROFS) ∷ []) (λ answer new need. calls s.limits (now_of s) pair.1 c answer pair.1 need × (new ≡ s))
+        | Some pair ↦ passing s ((not (is_reading_call c), EROFS) ∷ []) (λ answer new need. calls s.limits s.session pair.1 c answer pair.1 need × (new ≡ s))
       ])) [
         | None ↦ keeps_same (command.Within name c) (reply.Refused NOSNAP)
         | Some pair ↦ keeps_passing (command.Within name c) ((not (is_reading_call c), EROFS) ∷ []) _ (λ answer new need done.
@@ -113,12 +117,17 @@ module _ (s : State) where
       keeps_passing (command.At seconds nanoseconds) (at_tests s nanoseconds) _ (λ answer new need done.
       subst (λ t. Keeps (command.At seconds nanoseconds) answer t) (sym done.1) (record { limits = refl; mark = refl; used = λ plain n used. inl used }))
 
+  keeps_owner : (owner group : ℕ) → StepKeeps (command.As owner group) (sets_owner s owner group)
+  keeps_owner owner group =
+      keeps_passing (command.As owner group) (attribute_tests s.limits) _ (λ answer new need done.
+      subst (λ t. Keeps (command.As owner group) answer t) (sym done.1) (record { limits = refl; mark = refl; used = λ plain n used. inl used }))
+
   keeps_step : (room : Room) (asked : Command) → StepKeeps asked (WouldStep room s asked)
   keeps_step room (command.Path c) = keeps_on_tree (command.Path c) _ (gives_path c)
   keeps_step room (command.Open path flags mode below) =
-      keeps_on_tree (command.Open path flags mode below) _ (from.gives_open s.limits (now_of s) s.tree _ false below path flags mode (λ creates n fresh. (creates, fresh)))
+      keeps_on_tree (command.Open path flags mode below) _ (from.gives_open s.limits (now_of s) s.tree _ false below path flags (permissions_in s mode) (λ creates n fresh. (creates, fresh)))
   keeps_step room (command.OpenStat path flags mode below) =
-      keeps_on_tree (command.OpenStat path flags mode below) _ (from.gives_open s.limits (now_of s) s.tree _ true below path flags mode (λ creates n fresh. (creates, fresh)))
+      keeps_on_tree (command.OpenStat path flags mode below) _ (from.gives_open s.limits (now_of s) s.tree _ true below path flags (permissions_in s mode) (λ creates n fresh. (creates, fresh)))
   keeps_step room (command.Close fd) = keeps_on_tree (command.Close fd) _ (from.gives_close s.limits (now_of s) s.tree _ fd)
   keeps_step room (command.Read fd count) = keeps_on_tree (command.Read fd count) _ (from.gives_read s.limits (now_of s) s.tree _ fd count)
   keeps_step room (command.Write fd given) = keeps_on_tree (command.Write fd given) _ (from.gives_write s.limits (now_of s) s.tree _ fd given)
@@ -127,10 +136,14 @@ module _ (s : State) where
   keeps_step room (command.Lseek fd whence offset) = keeps_on_tree (command.Lseek fd whence offset) _ (from.gives_seek s.limits (now_of s) s.tree _ fd whence offset)
   keeps_step room (command.Ftruncate fd size) = keeps_on_tree (command.Ftruncate fd size) _ (from.gives_ftruncate s.limits (now_of s) s.tree _ fd size)
   keeps_step room (command.Fchmod fd mode) = keeps_on_tree (command.Fchmod fd mode) _ (from.gives_fchmod s.limits (now_of s) s.tree _ fd mode)
+  keeps_step room (command.Fchown fd owner group) = keeps_on_tree (command.Fchown fd owner group) _ (from.gives_fchown s.limits (now_of s) s.tree _ fd owner group)
+  keeps_step room (command.Futimens fd time) = keeps_on_tree (command.Futimens fd time) _ (from.gives_futimens s.limits (now_of s) s.tree _ fd time)
   keeps_step room (command.Fstat fd) = keeps_on_tree (command.Fstat fd) _ (from.gives_fstat s.limits (now_of s) s.tree _ fd)
+  keeps_step room (command.Fattr fd) = keeps_on_tree (command.Fattr fd) _ (from.gives_fattr s.limits (now_of s) s.tree _ fd)
   keeps_step room (command.Fsync fd) = keeps_on_tree (command.Fsync fd) _ (from.gives_fsync s.limits (now_of s) s.tree _ fd)
   keeps_step room (command.Extent path offset) = keeps_on_tree (command.Extent path offset) _ (from.gives_extent s.limits (now_of s) s.tree _ room.stored path offset)
   keeps_step room (command.At seconds nanoseconds) = keeps_time seconds nanoseconds
+  keeps_step room (command.As owner group) = keeps_owner owner group
   keeps_step room command.Sync = keeps_same command.Sync reply.Done
   keeps_step room command.Df = keeps_same command.Df (reply.Space room.blocks room.free room.pledged)
   keeps_step room command.Statfs = λ answer new need done. keeps_same command.Statfs _ answer new need done.2

@@ -10,7 +10,7 @@ use Rattle.layout.specs.Limits.{Sizes}
 use Rattle.layout.specs.Places.{Blocks, blocks_of}
 use Rattle.layout.specs.Record.{IsChange}
 use Rattle.model.specs.Counting.{Counts}
-use Rattle.model.specs.Records.{CanEdit, CanRename, CanReplace, Change, Edit, Replays, applied, change_mode, create, set_file, truncate, link, rename, remove_name, write}
+use Rattle.model.specs.Records.{CanEdit, CanRename, CanReplace, Change, Edit, Replays, applied, change_attributes, create, set_file, truncate, link, rename, remove_name, write}
 use Rattle.model.proofs.MarkLemmas.{records_keep_volumes}
 use Rattle.model.proofs.CountLemmas.{one_less, same_count}
 use Rattle.model.proofs.ListingLemmas.{names_apart}
@@ -183,7 +183,7 @@ leaves_place limits v (remove_name parent name) volume can = tt
 leaves_place limits v (rename d x k y) volume can = move_leaves_place limits v volume d x k y can
 leaves_place limits v (write number offset bytes) volume can = tt
 leaves_place limits v (truncate number size) volume can = tt
-leaves_place limits v (change_mode number mode) volume can = tt
+leaves_place limits v (change_attributes number permissions modified) volume can = tt
 leaves_place limits v (set_file number mode size) volume can = tt
 
 -- over a volume no limit is passed, and over that of its lowest bytes all that is changed in part can be read

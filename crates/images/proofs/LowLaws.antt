@@ -1,17 +1,17 @@
 -- The volume of the lowest bytes: that of the same objects, where each number in a file is its lowest byte. Records of bytes do the same to
 -- both, and each block of a file can be read in it.
-use Rattle.std.proofs.Common.{◌≡◌, inl, inr, ℕ, zero, suc, ◌+◌, ◌-◌, ◌*◌, ◌/◌, ◌%◌, ◌<◌, ◌≢◌, List, [], ◌∷◌, ◌++◌, length, map, take, drop, replicate, slice_index, Option, Some, None, Bool, true, false, IsSome, ◌||◌, ◌==◌, if◌then◌else◌, refl, ap, sym, subst, ◌∙◌, arith}
+use Rattle.std.proofs.Common.{◌≡◌, inl, inr, ℕ, zero, suc, ◌+◌, ◌-◌, ◌*◌, ◌/◌, ◌%◌, ◌<◌, ◌≢◌, List, [], ◌∷◌, ◌++◌, length, map, take, drop, replicate, slice_index, Option, Some, None, Bool, true, false, IsSome, ◌==◌, if◌then◌else◌, refl, ap, sym, subst, ◌∙◌, arith}
 use Rattle.std.proofs.Math.Path.{fun_ext}
 use Rattle.std.proofs.lemmas.List.{map-append, take-map, drop-map, length-map}
 use Rattle.model.specs.declared.limits.Limits.{Limits}
 use Rattle.layout.specs.Bytes.{IsBytes}
 use Rattle.layout.specs.Record.{FitsEditFields, FitsFields}
 use Rattle.model.specs.declared.attributes.Attributes.{Attributes}
-use Rattle.model.specs.Attributes.{set_mode}
+use Rattle.model.specs.Attributes.{set_given, set_mode}
 use Rattle.model.specs.Counting.{Counts}
 use Rattle.model.specs.Edits.{resized, written}
 use Rattle.model.specs.Paths.{Name}
-use Rattle.model.specs.Records.{Applies, CanEdit, CanReplace, Change, Edit, IsBelow, IsEmpty, Made, TakesName, applied, edited, marked_nodes, touches_of, change_mode, create, truncate, directory, file, is_vacant, link, node_of, rename, set_file, symbolic_link, remove_name, with_bits, with_file_bytes, with_node_attributes, with_size, write}
+use Rattle.model.specs.Records.{Applies, CanEdit, CanReplace, Change, Edit, IsBelow, IsEmpty, Made, TakesMode, TakesName, applied, edited, marked_nodes, touches_of, change_attributes, create, truncate, directory, file, is_vacant, link, node_of, rename, set_file, symbolic_link, remove_name, with_bits, with_file_bytes, with_node_attributes, with_size, write}
 use Rattle.model.specs.Volumes.{Entries, Node, Volume, directory_node, entries, file_node, is_directory_node, is_file_node, link_node, released, set_name, with_entry, with_name_less, with_name_more, with_node}
 use Rattle.model.specs.Touches.{Touches, touches_entry, touches_move}
 use Rattle.model.specs.declared.attributes.Touch.TheVariants.{Status}
@@ -115,9 +115,9 @@ with_bytes f same (Some (link_node attributes text)) = refl
 
 made_low : (made : Made) → low_node (Some (node_of made)) ≡ Some (node_of made)
 unfolding low_bytes
-made_low (file mode) = refl
-made_low (directory mode) = refl
-made_low (symbolic_link text) = refl
+made_low (file permissions) = refl
+made_low (directory permissions) = refl
+made_low (symbolic_link permissions text) = refl
 
 pub low_entries : (v : Volume) → entries (low v) ≡ entries v
 low_entries v = fun_ext (λ n. fun_ext (λ x. bytes_names low_bytes (v n) x))
@@ -151,7 +151,9 @@ low_edited (rename d x k y) v fits =
     ∙ ap (λ (e : Entries). with_entry k y (e d x) (with_entry d x None (released (entries (low v) k y) (low v)))) (sym (low_entries v))
 low_edited (write number offset bytes) v fits = change_low (with_file_bytes (written offset bytes)) (with_bytes (written offset bytes) (λ b. low_written offset bytes b fits.1)) number v
 low_edited (truncate number size) v fits = change_low (with_file_bytes (resized size)) (with_bytes (resized size) (low_resized size)) number v
-low_edited (change_mode number mode) v fits = change_low (with_node_attributes (set_mode mode)) (changed (set_mode mode)) number v
+low_edited (change_attributes number permissions modified) v fits =
+    let f = set_given permissions modified in
+    change_low (with_node_attributes f) (changed f) number v
 low_edited (set_file number mode size) v fits =
     change_low (with_node_attributes (set_mode mode)) (changed (set_mode mode)) number (with_size number size v)
     ∙ ap (with_bits number mode) (change_low (with_file_bytes (resized size)) (with_bytes (resized size) (low_resized size)) number v)
@@ -170,7 +172,7 @@ low_touches (remove_name parent name) v = ap (λ (e : Entries). touches_entry St
 low_touches (rename d x k y) v = ap (λ (e : Entries). touches_move (e d x) (e k y) (Some d) (Some k)) (sym (low_entries v))
 low_touches (write number offset bytes) v = refl
 low_touches (truncate number size) v = refl
-low_touches (change_mode number mode) v = refl
+low_touches (change_attributes number permissions modified) v = refl
 low_touches (set_file number mode size) v = refl
 
 pub low_applied : (change : Change) (v : Volume) → FitsFields change → low (applied change v) ≡ applied change (low v)
@@ -183,6 +185,12 @@ low_applied change v fits =
 vacant_alike : (attributes : Attributes) (links : ℕ) (a b : List ℕ) → is_vacant (Some (file_node attributes links a)) ≡ is_vacant (Some (file_node attributes links b))
 vacant_alike attributes zero a b = refl
 vacant_alike attributes (suc links) a b = refl
+
+mode_low : (has_attributes : Bool) (o : Option Node) (mode : ℕ) → TakesMode has_attributes o mode → TakesMode has_attributes (low_node o) mode
+mode_low has_attributes None mode takes = takes
+mode_low has_attributes (Some (directory_node attributes names)) mode takes = takes
+mode_low has_attributes (Some (file_node attributes links bytes)) mode takes = takes
+mode_low has_attributes (Some (link_node attributes text)) mode takes = takes
 
 module _ (v : Volume) where
   abbrev Low : (Entries → Type 0) → Type 0
@@ -233,8 +241,8 @@ module _ (v : Volume) where
   low_can limits (write number offset bytes) can = (is_file number ∙ can.0, can.1, can.2, can.3)
   low_can limits (truncate number size) can = (is_file number ∙ can.0, can.1)
   low_can limits (set_file number mode size) can = (is_file number ∙ can.0, can.1, can.2)
-  low_can limits (change_mode number mode) can =
-      (bytes_by (λ o. is_file_node o || is_directory_node o) (λ attributes links a b. refl) low_bytes (v number) ∙ can.0, can.1)
+  low_can limits (change_attributes number permissions modified) can =
+      (mode_low limits.has_attributes (v number) permissions.mode can.0, can.1)
 
   pub low_applies : (limits : Limits) (change : Change) → Applies limits v change → Applies limits (low v) change
   low_applies limits change can = record { time = can.time; edit = low_can limits change.edit can.edit }
@@ -247,7 +255,7 @@ module _ (v : Volume) where
       (λ e. (count : ℕ) × Counts (λ (z : Name). IsSome (e k z) × (z ≢ y) × (d ≡ k → z ≢ x)) count × (count < limits.directory_names)) place
   low_place limits (write number offset bytes) place = tt
   low_place limits (truncate number size) place = tt
-  low_place limits (change_mode number mode) place = tt
+  low_place limits (change_attributes number permissions modified) place = tt
   low_place limits (set_file number mode size) place = tt
 
   read : (o : Option Node) (k : ℕ) → slice_index (bytes_of_node (low_node o)) k < 256
@@ -263,5 +271,5 @@ module _ (v : Volume) where
   low_reads (rename d x k y) = tt
   low_reads (write number offset bytes) = λ i part. read (v number) (4096 * i)
   low_reads (truncate number size) = λ cuts. read (v number) (4096 * (size / 4096))
-  low_reads (change_mode number mode) = tt
+  low_reads (change_attributes number permissions modified) = tt
   low_reads (set_file number mode size) = λ cuts. read (v number) (4096 * (size / 4096))

@@ -11,7 +11,7 @@ use Rattle.layout.specs.declared.inode.Body.TheVariants.{Inline}
 use Rattle.layout.specs.declared.inode.Inode.{Inode}
 use Rattle.layout.specs.declared.kind.Kind.TheVariants as kinds
 use Rattle.layout.specs.declared.trees.Layout.{Layout}
-use Rattle.model.specs.Attributes.{new_attributes}
+use Rattle.model.specs.Attributes.{mode_alone, new_attributes}
 use Rattle.model.specs.declared.limits.TheConstants.{FIRST_NUMBER, ROOT_NUMBER}
 use Rattle.layout.specs.declared.pointer.Pointer.TheVariants.{Hole}
 use Rattle.layout.specs.declared.root.Root.{Root}
@@ -26,7 +26,7 @@ use Rattle.images.specs.Soundness.{HasNoHole, IsSoundFile, SpellsInodes}
 -- an empty directory of mode 0755
 abbrev pub empty_directory : Layout → Inode
 empty_directory layout =
-    record { layout = layout; kind = kinds.Directory; attributes = new_attributes 0o755; links = 1; size = 0; body = Inline (zeros INLINE_BYTES) }
+    record { layout = layout; kind = kinds.Directory; attributes = new_attributes (mode_alone 0o755); links = 1; size = 0; body = Inline (zeros INLINE_BYTES) }
 
 -- the inode of each number, where these are those of the inode file, the inode map and the block
 -- map, in an image of the inode file's layout
@@ -45,7 +45,7 @@ abbrev pub root_alone_volume : Volume
 root_alone_volume zero = None
 root_alone_volume (suc zero) = None
 root_alone_volume (suc (suc zero)) = None
-root_alone_volume (suc (suc (suc zero))) = Some (directory_node (new_attributes 0o755) (λ x. None))
+root_alone_volume (suc (suc (suc zero))) = Some (directory_node (new_attributes (mode_alone 0o755)) (λ x. None))
 root_alone_volume (suc (suc (suc (suc n)))) = None
 
 -- What a disk e has under the inode of an inode file, where these are the inodes of the two maps:

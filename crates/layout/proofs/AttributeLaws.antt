@@ -11,7 +11,6 @@ use Rattle.model.specs.declared.limits.TheConstants.{MOST_NANOSECONDS}
 use Rattle.model.specs.declared.time.Time.{Time}
 use Rattle.layout.specs.Attributes.{Others, attribute_fields, attributes_from, others_told, time_fields, time_of, time_read, time_told}
 use Rattle.layout.specs.Bytes.{IsBytes}
-use Rattle.layout.specs.Reading.{◌>>=◌}
 use Rattle.layout.proofs.Formats.{Takes, IsExact, bind_some, some_is, num_exact, ranged_exact, blank_exact, then_exact}
 
 time_exact : IsExact time_fields

@@ -18,6 +18,7 @@ pub mod NodeLaws
 pub mod InodeLaws
 pub mod RootLaws
 pub mod AttributeLaws
+pub mod PermissionLaws
 pub mod EntryLaws
 pub mod SnapshotLaws
 pub mod OpenLaws

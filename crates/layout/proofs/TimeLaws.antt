@@ -12,9 +12,9 @@ use Rattle.layout.specs.declared.trees.Layout.TheVariants.{Plain, Summed}
 
 -- a time that a record has is one that a change may have
 pub time_kept : (layout : Layout) (time : Option Time) → FitsTime (has_attributes layout) time → KeepsTime (has_attributes layout) time
-time_kept Plain None fits = tt
+time_kept Plain None fits = refl
 time_kept Plain (Some time) fits = absurd fits
-time_kept Summed None fits = tt
+time_kept Summed None fits = absurd fits
 time_kept Summed (Some time) fits = (refl, fits)
 
 -- a time that a record has where objects have times

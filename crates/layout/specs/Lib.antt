@@ -20,6 +20,7 @@ pub mod Version
 pub mod StateLimits
 pub mod SnapRoot
 pub mod Opens
+pub mod Permissions
 pub mod Places
 pub mod DirectoryNames
 pub mod FileBytes

@@ -17,6 +17,7 @@ mod log;
 mod maps;
 mod name;
 mod numbers;
+mod permissions;
 mod pointer;
 mod reading;
 mod record;

@@ -3,15 +3,22 @@
 ghost use Rattle.std.specs.Prelude.{◌<◌};
 
 use crate::InodeNumber;
-use model::{Mode, Time};
+use model::{Mode, Permissions, Time};
 
 /// What a record makes.
 #[derive(Clone, Copy)]
 pub enum NewObject<'a> {
-    File { mode: Mode },
-    Directory { mode: Mode },
+    File {
+        permissions: Permissions,
+    },
+    Directory {
+        permissions: Permissions,
+    },
     /// A symbolic link, with its text; its mode is always 0777.
-    Link { text: &'a [u8] },
+    Link {
+        permissions: Permissions,
+        text: &'a [u8],
+    },
 }
 
 /// What a record of the log does.
@@ -53,9 +60,12 @@ pub enum Edit<'a> {
         number: InodeNumber,
         size: u64,
     },
-    ChangeMode {
+    /// Gives the object these permissions and this time of its data, which are what it has where the
+    /// call doesn't change them.
+    ChangeAttributes {
         number: InodeNumber,
-        mode: Mode,
+        permissions: Permissions,
+        modified: Time,
     },
     /// Gives the file this mode and this size.
     SetFile {

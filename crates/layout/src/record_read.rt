@@ -4,14 +4,15 @@ ghost use Rattle.layout.specs.Trees.{has_attributes};
 ghost use Rattle.std.specs.Prelude.{◌≡◌, ◌↔◌, IsTrue, IfSome, IsSomeAnd};
 ghost use Rattle.std.specs.Option.{option_map};
 ghost use Rattle.layout.specs.Record.{Change, IsChange, KeepsEditLimits, KeepsMadeLimits, body_of, change_bytes, change_of, edit_of, made_of};
-ghost use Rattle.layout.specs.RecordReading.{create_in, link_in, remove_name_in, rename_in, write_in, truncate_in, change_mode_in, set_file_in, made_in, edit_in, time_in, change_in};
+ghost use Rattle.layout.specs.RecordReading.{create_in, link_in, remove_name_in, rename_in, write_in, truncate_in, change_attributes_in, set_file_in, made_in, edit_in, time_in, change_in};
 
 use crate::attributes::time_at;
 use crate::name::{is_link_text, is_name};
+use crate::permissions::{modified_at, permissions_at};
 use crate::reading::{contents_at, mode_at, name_at, text_at, u8_at, u32_at, u64_at};
 use crate::record::{Edit, NewObject, Record};
 use crate::{InodeNumber, Layout};
-use model::{LINK_MODE, Mode, TRANSFER_BYTES, Time};
+use model::{LINK_MODE, Mode, Permissions, TRANSFER_BYTES, Time};
 
 impl<'a> Record<'a> {
     /// The record of an image of this layout whose body these bytes are, all of them; None where no
@@ -47,7 +48,7 @@ impl Edit<'_> {
             Edit::Link { name, .. } | Edit::RemoveName { name, .. } => is_name(name),
             Edit::Rename { name, new_name, .. } => is_name(name) && is_name(new_name),
             Edit::Write { bytes, .. } => !bytes.is_empty() && bytes.len() <= TRANSFER_BYTES,
-            Edit::Truncate { .. } | Edit::ChangeMode { .. } | Edit::SetFile { .. } => true,
+            Edit::Truncate { .. } | Edit::ChangeAttributes { .. } | Edit::SetFile { .. } => true,
         }
     }
 }
@@ -57,7 +58,9 @@ fn object_keeps_limits(object: &NewObject<'_>) -> bool
 {
     match object {
         NewObject::File { .. } | NewObject::Directory { .. } => true,
-        NewObject::Link { text } => is_link_text(text),
+        NewObject::Link { permissions, text } => {
+            permissions.mode.bits() == LINK_MODE && is_link_text(text)
+        }
     }
 }
 
@@ -69,7 +72,7 @@ fn read_record(layout: Layout, bytes: &[u8]) -> Option<Record<'_>>
     let Some((time, bytes)) = read_time(layout, bytes) else {
         return None;
     };
-    let Some(edit) = read_edit(op, bytes) else {
+    let Some(edit) = read_edit(layout.has_attributes(), op, bytes) else {
         return None;
     };
     Some(Record { time, edit })
@@ -92,33 +95,34 @@ fn read_time(layout: Layout, bytes: &[u8]) -> Option<(Option<Time>, &[u8])>
 }
 
 #[tactic(auto, unfolding(crate::specs::RecordReading::edit_in))]
-fn read_edit(op: u8, bytes: &[u8]) -> Option<Edit<'_>>
-    ensures { option_map edit_of result ≡ edit_in op bytes.now }
+fn read_edit(has_attributes: bool, op: u8, bytes: &[u8]) -> Option<Edit<'_>>
+    ensures { option_map edit_of result ≡ edit_in has_attributes op bytes.now }
 {
     match op {
-        1 => read_create(bytes),
+        1 => read_create(has_attributes, bytes),
         2 => read_link(bytes),
         3 => read_remove_name(bytes),
         4 => read_rename(bytes),
         5 => read_write(bytes),
         6 => read_truncate(bytes),
-        7 => read_change_mode(bytes),
+        7 => read_change_attributes(has_attributes, bytes),
         8 => read_set_file(bytes),
         _ => None,
     }
 }
 
 #[tactic(auto, unfolding(crate::specs::RecordReading::create_in))]
-fn read_create(bytes: &[u8]) -> Option<Edit<'_>>
-    ensures { option_map edit_of result ≡ create_in bytes.now }
+fn read_create(has_attributes: bool, bytes: &[u8]) -> Option<Edit<'_>>
+    ensures { option_map edit_of result ≡ create_in has_attributes bytes.now }
 {
     let (number, bytes) = u32_at(bytes)?;
     let (parent, bytes) = u32_at(bytes)?;
     let (kind, bytes) = u8_at(bytes)?;
-    let (bits, bytes) = mode_at(bytes)?;
+    let Some((permissions, bytes)) = permissions_at(has_attributes, bytes) else {
+        return None;
+    };
     let (name, bytes) = name_at(bytes)?;
-    let mode = Mode::new(bits).unwrap();
-    let Some(object) = read_object(kind, mode, bytes) else {
+    let Some(object) = read_object(kind, permissions, bytes) else {
         return None;
     };
     Some(Edit::Create {
@@ -131,16 +135,16 @@ fn read_create(bytes: &[u8]) -> Option<Edit<'_>>
 
 // What is made: a link's text stands in the last bytes, and behind the others nothing does.
 #[tactic(auto, unfolding(crate::specs::RecordReading::made_in))]
-fn read_object(kind: u8, mode: Mode, bytes: &[u8]) -> Option<NewObject<'_>>
-    ensures { option_map made_of result ≡ made_in kind mode bytes.now }
+fn read_object(kind: u8, permissions: Permissions, bytes: &[u8]) -> Option<NewObject<'_>>
+    ensures { option_map made_of result ≡ made_in kind permissions bytes.now }
 {
     match kind {
-        1 if bytes.is_empty() => Some(NewObject::File { mode }),
-        2 if bytes.is_empty() => Some(NewObject::Directory { mode }),
-        3 if mode.bits() == LINK_MODE => {
+        1 if bytes.is_empty() => Some(NewObject::File { permissions }),
+        2 if bytes.is_empty() => Some(NewObject::Directory { permissions }),
+        3 => {
             let (text, bytes) = text_at(bytes)?;
             if bytes.is_empty() {
-                Some(NewObject::Link { text })
+                Some(NewObject::Link { permissions, text })
             } else {
                 None
             }
@@ -232,18 +236,24 @@ fn read_truncate(bytes: &[u8]) -> Option<Edit<'_>>
     })
 }
 
-#[tactic(auto, unfolding(crate::specs::RecordReading::change_mode_in))]
-fn read_change_mode(bytes: &[u8]) -> Option<Edit<'_>>
-    ensures { option_map edit_of result ≡ change_mode_in bytes.now }
+#[tactic(auto, unfolding(crate::specs::RecordReading::change_attributes_in))]
+fn read_change_attributes(has_attributes: bool, bytes: &[u8]) -> Option<Edit<'_>>
+    ensures { option_map edit_of result ≡ change_attributes_in has_attributes bytes.now }
 {
     let (number, bytes) = u32_at(bytes)?;
-    let (bits, bytes) = mode_at(bytes)?;
+    let Some((permissions, bytes)) = permissions_at(has_attributes, bytes) else {
+        return None;
+    };
+    let Some((modified, bytes)) = modified_at(has_attributes, bytes) else {
+        return None;
+    };
     if !bytes.is_empty() {
         return None;
     }
-    Some(Edit::ChangeMode {
+    Some(Edit::ChangeAttributes {
         number: InodeNumber::new(number),
-        mode: Mode::new(bits).unwrap(),
+        permissions,
+        modified,
     })
 }
 

@@ -3,13 +3,14 @@
 ghost use Rattle.std.specs.Prelude.{◌≡◌, ◌≤◌, ◌+◌, length};
 ghost use Rattle.model.specs.declared.limits.TheConstants.{NAME_BYTES, TRANSFER_BYTES};
 ghost use Rattle.layout.specs.Bytes.{Writes, little};
-ghost use Rattle.layout.specs.Record.{KeepsEditLimits, KeepsLimits, KeepsMadeLimits, change_of, edit_bytes, edit_of, op_of, time_bytes, create, link, remove_name, rename, write, truncate, change_mode, set_file, made_of, kind_of_made, mode_of_made, name_bytes, body_of, text_of};
+ghost use Rattle.layout.specs.Record.{KeepsEditLimits, KeepsLimits, KeepsMadeLimits, change_of, edit_bytes, edit_of, op_of, time_bytes, create, change_attributes, link_fields, remove_name_fields, rename_fields, write_fields, truncate_fields, set_file_fields, made_of, kind_of_made, permissions_of_made, name_bytes, body_of, text_of};
 
 use crate::InodeNumber;
 use crate::attributes::put_time;
+use crate::permissions::{modified_len, permissions_len, put_modified, put_permissions};
 use crate::record::{Edit, NewObject, Record};
 use crate::writing::{put_byte, put_bytes, put_u8, put_u16, put_u32, put_u64};
-use model::{LINK_MODE, Mode, Time};
+use model::{Mode, Permissions, Time};
 
 impl Record<'_> {
     /// How many bytes its body has.
@@ -17,7 +18,7 @@ impl Record<'_> {
         requires { KeepsLimits (change_of self.now) }
         ensures { result ≡ length (body_of self.now) }
     {
-        1 + time_len(self.time) + self.edit.fields_len()
+        1 + time_len(self.time) + self.edit.fields_len(self.time.is_some())
     }
 
     /// Writes the record's body, and answers how many bytes it has.
@@ -28,7 +29,8 @@ impl Record<'_> {
     {
         put_byte(out, 0, self.edit.op());
         put_call_time(out, 1, self.time);
-        self.edit.write_fields(out, 1 + time_len(self.time))
+        self.edit
+            .write_fields(out, 1 + time_len(self.time), self.time.is_some())
     }
 }
 
@@ -43,34 +45,38 @@ impl Edit<'_> {
             Edit::Rename { .. } => 4,
             Edit::Write { .. } => 5,
             Edit::Truncate { .. } => 6,
-            Edit::ChangeMode { .. } => 7,
+            Edit::ChangeAttributes { .. } => 7,
             Edit::SetFile { .. } => 8,
         }
     }
 
     // How many bytes its fields have.
-    fn fields_len(&self) -> usize
+    fn fields_len(&self, has_attributes: bool) -> usize
         requires { KeepsEditLimits (edit_of self.now) }
-        ensures value { result ≡ length (edit_bytes (edit_of self.now)) }
+        ensures value { result ≡ length (edit_bytes has_attributes (edit_of self.now)) }
         ensures short { result ≤ 65552 }
     {
         match self {
-            Edit::Create { object, name, .. } => 12 + count_of(name) + object_len(object),
+            Edit::Create { object, name, .. } => {
+                10 + permissions_len(has_attributes) + count_of(name) + object_len(object)
+            }
             Edit::Link { name, .. } => 9 + count_of(name),
             Edit::RemoveName { name, .. } => 5 + count_of(name),
             Edit::Rename { name, new_name, .. } => 10 + count_of(name) + count_of(new_name),
             Edit::Write { bytes, .. } => 16 + count_of(bytes),
             Edit::Truncate { .. } => 12,
-            Edit::ChangeMode { .. } => 6,
+            Edit::ChangeAttributes { .. } => {
+                4 + permissions_len(has_attributes) + modified_len(has_attributes)
+            }
             Edit::SetFile { .. } => 14,
         }
     }
 
     // Writes its fields from a place on, and answers where they end.
-    fn write_fields(&self, out: &mut [u8], at: usize) -> usize
+    fn write_fields(&self, out: &mut [u8], at: usize, has_attributes: bool) -> usize
         requires fits { KeepsEditLimits (edit_of self.now) }
-        requires room { at + length (edit_bytes (edit_of self.now)) ≤ length out.old }
-        ensures { Writes at result (edit_bytes (edit_of self.now)) out.old out.new }
+        requires room { at + length (edit_bytes has_attributes (edit_of self.now)) ≤ length out.old }
+        ensures { Writes at result (edit_bytes has_attributes (edit_of self.now)) out.old out.new }
     {
         match self {
             Edit::Create {
@@ -78,7 +84,7 @@ impl Edit<'_> {
                 parent,
                 object,
                 name,
-            } => write_create(out, at, *number, *parent, object, name),
+            } => write_create(out, at, has_attributes, *number, *parent, object, name),
             Edit::Link {
                 number,
                 parent,
@@ -97,7 +103,11 @@ impl Edit<'_> {
                 bytes,
             } => write_write(out, at, *number, *offset, bytes),
             Edit::Truncate { number, size } => write_truncate(out, at, *number, *size),
-            Edit::ChangeMode { number, mode } => write_change_mode(out, at, *number, *mode),
+            Edit::ChangeAttributes {
+                number,
+                permissions,
+                modified,
+            } => write_change_attributes(out, at, has_attributes, *number, *permissions, *modified),
             Edit::SetFile { number, mode, size } => write_set_file(out, at, *number, *mode, *size),
         }
     }
@@ -130,15 +140,24 @@ fn count_of(bytes: &[u8]) -> usize
     bytes.len()
 }
 
-// The kind's code, and the mode: that of a link is 0777.
-fn kind_and_mode(object: &NewObject<'_>) -> (u8, u16)
-    ensures kind { result.0 ≡ kind_of_made (made_of object.now) }
-    ensures mode { result.1 ≡ mode_of_made (made_of object.now) }
+// The kind's code.
+fn kind_of(object: &NewObject<'_>) -> u8
+    ensures { result ≡ kind_of_made (made_of object.now) }
 {
     match object {
-        NewObject::File { mode } => (1, mode.bits()),
-        NewObject::Directory { mode } => (2, mode.bits()),
-        NewObject::Link { .. } => (3, LINK_MODE),
+        NewObject::File { .. } => 1,
+        NewObject::Directory { .. } => 2,
+        NewObject::Link { .. } => 3,
+    }
+}
+
+fn permissions_of(object: &NewObject<'_>) -> Permissions
+    ensures { result ≡ permissions_of_made (made_of object.now) }
+{
+    match *object {
+        NewObject::File { permissions } => permissions,
+        NewObject::Directory { permissions } => permissions,
+        NewObject::Link { permissions, .. } => permissions,
     }
 }
 
@@ -150,7 +169,7 @@ fn object_len(object: &NewObject<'_>) -> usize
 {
     match *object {
         NewObject::File { .. } | NewObject::Directory { .. } => 0,
-        NewObject::Link { text } => 2 + text.len(),
+        NewObject::Link { text, .. } => 2 + text.len(),
     }
 }
 
@@ -178,9 +197,11 @@ fn put_name(out: &mut [u8], at: usize, name: &[u8])
     put_bytes(out, at + 1, name);
 }
 
+#[allow(clippy::too_many_arguments)]
 fn write_create(
     out: &mut [u8],
     at: usize,
+    has_attributes: bool,
     number: InodeNumber,
     parent: InodeNumber,
     object: &NewObject<'_>,
@@ -188,18 +209,20 @@ fn write_create(
 ) -> usize
     requires object { KeepsMadeLimits (made_of object.now) }
     requires name { length name.now ≤ NAME_BYTES }
-    requires room { at + 12 + length name.now + length (text_of object.now) ≤ length out.old }
+    requires room { let made = made_of object.now in
+        at + length (edit_bytes has_attributes (create number parent made name.now)) ≤ length out.old }
     ensures { let made = made_of object.now in
-        Writes at result (edit_bytes (create number parent made name.now)) out.old out.new }
+        Writes at result (edit_bytes has_attributes (create number parent made name.now)) out.old
+        out.new }
 {
-    let (kind, mode) = kind_and_mode(object);
     put_number(out, at, number);
     put_number(out, at + 4, parent);
-    put_u8(out, at + 8, kind);
-    put_u16(out, at + 9, mode);
-    put_name(out, at + 11, name);
-    put_text(out, at + 12 + name.len(), object);
-    at + 12 + name.len() + object_len(object)
+    put_u8(out, at + 8, kind_of(object));
+    put_permissions(out, at + 9, has_attributes, permissions_of(object));
+    let next = at + 9 + permissions_len(has_attributes);
+    put_name(out, next, name);
+    put_text(out, next + 1 + name.len(), object);
+    next + 1 + name.len() + object_len(object)
 }
 
 // The text of a link behind its length, from a place on, and nothing for the others.
@@ -208,7 +231,7 @@ fn put_text(out: &mut [u8], at: usize, object: &NewObject<'_>)
     requires room { at + length (text_of object.now) ≤ length out.old }
     ensures { Writes at (at + length (text_of object.now)) (text_of object.now) out.old out.new }
 {
-    if let NewObject::Link { text } = *object {
+    if let NewObject::Link { text, .. } = *object {
         put_u16(out, at, text.len() as u16);
         put_bytes(out, at + 2, text);
     }
@@ -223,7 +246,7 @@ fn write_link(
 ) -> usize
     requires name { length name.now ≤ NAME_BYTES }
     requires room { at + 9 + length name.now ≤ length out.old }
-    ensures { Writes at result (edit_bytes (link number parent name.now)) out.old out.new }
+    ensures { Writes at result (link_fields.text (number, (parent, name.now))) out.old out.new }
 {
     put_number(out, at, number);
     put_number(out, at + 4, parent);
@@ -234,7 +257,7 @@ fn write_link(
 fn write_remove_name(out: &mut [u8], at: usize, parent: InodeNumber, name: &[u8]) -> usize
     requires name { length name.now ≤ NAME_BYTES }
     requires room { at + 5 + length name.now ≤ length out.old }
-    ensures { Writes at result (edit_bytes (remove_name parent name.now)) out.old out.new }
+    ensures { Writes at result (remove_name_fields.text (parent, name.now)) out.old out.new }
 {
     put_number(out, at, parent);
     put_name(out, at + 4, name);
@@ -252,8 +275,8 @@ fn write_rename(
     requires name { length name.now ≤ NAME_BYTES }
     requires new_name { length new_name.now ≤ NAME_BYTES }
     requires room { at + 10 + length name.now + length new_name.now ≤ length out.old }
-    ensures { let said = rename parent name.now new_parent new_name.now in
-        Writes at result (edit_bytes said) out.old out.new }
+    ensures { Writes at result
+        (rename_fields.text (parent, (name.now, (new_parent, new_name.now)))) out.old out.new }
 {
     put_number(out, at, parent);
     put_name(out, at + 4, name);
@@ -266,7 +289,7 @@ fn write_rename(
 fn write_write(out: &mut [u8], at: usize, number: InodeNumber, offset: u64, bytes: &[u8]) -> usize
     requires fits { length bytes.now ≤ TRANSFER_BYTES }
     requires room { at + 16 + length bytes.now ≤ length out.old }
-    ensures { Writes at result (edit_bytes (write number offset bytes.now)) out.old out.new }
+    ensures { Writes at result (write_fields.text (number, (offset, bytes.now))) out.old out.new }
 {
     put_number(out, at, number);
     put_u64(out, at + 4, offset);
@@ -277,25 +300,36 @@ fn write_write(out: &mut [u8], at: usize, number: InodeNumber, offset: u64, byte
 
 fn write_truncate(out: &mut [u8], at: usize, number: InodeNumber, size: u64) -> usize
     requires { at + 12 ≤ length out.old }
-    ensures { Writes at result (edit_bytes (truncate number size)) out.old out.new }
+    ensures { Writes at result (truncate_fields.text (number, size)) out.old out.new }
 {
     put_number(out, at, number);
     put_u64(out, at + 4, size);
     at + 12
 }
 
-fn write_change_mode(out: &mut [u8], at: usize, number: InodeNumber, mode: Mode) -> usize
-    requires { at + 6 ≤ length out.old }
-    ensures { Writes at result (edit_bytes (change_mode number mode)) out.old out.new }
+fn write_change_attributes(
+    out: &mut [u8],
+    at: usize,
+    has_attributes: bool,
+    number: InodeNumber,
+    permissions: Permissions,
+    modified: Time,
+) -> usize
+    requires { let said = change_attributes number permissions modified in
+        at + length (edit_bytes has_attributes said) ≤ length out.old }
+    ensures { let said = change_attributes number permissions modified in
+        Writes at result (edit_bytes has_attributes said) out.old out.new }
 {
     put_number(out, at, number);
-    put_mode(out, at + 4, mode);
-    at + 6
+    put_permissions(out, at + 4, has_attributes, permissions);
+    let next = at + 4 + permissions_len(has_attributes);
+    put_modified(out, next, has_attributes, modified);
+    next + modified_len(has_attributes)
 }
 
 fn write_set_file(out: &mut [u8], at: usize, number: InodeNumber, mode: Mode, size: u64) -> usize
     requires { at + 14 ≤ length out.old }
-    ensures { Writes at result (edit_bytes (set_file number mode size)) out.old out.new }
+    ensures { Writes at result (set_file_fields.text (number, (mode, size))) out.old out.new }
 {
     put_number(out, at, number);
     put_mode(out, at + 4, mode);

@@ -19,7 +19,7 @@ use buffers::{Block, SharedBlock};
 use entries::Known;
 use inode::{File, Object, Status};
 use layout::{Body, Geometry, INLINE_BYTES, INODE_BYTES, Inode, Kind, Layout};
-use model::{Attributes, Mode};
+use model::{Attributes, Mode, Permissions};
 use std::alloc::{AllocError, Global};
 
 /// The file, without blocks.
@@ -51,7 +51,7 @@ fn root_directory(layout: Layout) -> Inode
     Inode {
         layout,
         kind: Kind::Directory,
-        attributes: Attributes::new(Mode::NEW_DIRECTORY),
+        attributes: Attributes::new(Permissions::of_mode(Mode::NEW_DIRECTORY)),
         links: 1,
         size: 0,
         body: Body::Inline([0; INLINE_BYTES]),

@@ -6,11 +6,12 @@ use Rattle.std.proofs.lemmas.Bool.{cases_Bool, cond-true, cond-false, eqb-false,
 use Rattle.std.proofs.lemmas.List.Elements.{All-nil, All-contains, All-from_recursion}
 use Rattle.std.proofs.Math.Nat.{min-le_right}
 use Rattle.model.specs.declared.limits.Limits.{Limits}
-use Rattle.model.specs.declared.limits.TheConstants.{LINK_MODE, MODE_BITS, OPEN_FILES}
+use Rattle.model.specs.declared.limits.TheConstants.{OPEN_FILES}
+use Rattle.model.specs.declared.attributes.Permissions.{Permissions}
 use Rattle.model.specs.declared.attributes.Touch.{Touch}
 use Rattle.model.specs.declared.attributes.Touch.TheVariants.{Data, Status}
 use Rattle.model.specs.declared.time.Time.{Time}
-use Rattle.model.specs.Attributes.{KeepsTime, new_attributes}
+use Rattle.model.specs.Attributes.{FitAttributes, KeepsTime, new_attributes}
 use Rattle.model.specs.Touches.{Touches, touches_entry}
 use Rattle.model.specs.declared.errno.Errno.TheVariants.{ENOENT, ENOTDIR, EISDIR, EEXIST, EINVAL, EPERM, EBUSY, ENOTEMPTY, EMLINK, EMFILE}
 use Rattle.model.specs.declared.reply.Reply.TheVariants as reply
@@ -98,16 +99,16 @@ module _ (limits : Limits) (t : Tree) (tree : IsTree limits t) where
         (λ p name is misses. stays_place limits t tree p _ (λ names listing room. stays_fresh limits t tree _ (λ n fresh. stays_changed limits t tree reply.Done (changing.entered now Data n p t (make (p ++ name ∷ []) n t)) (logs adds_name) (entered_is Data n p (make (p ++ name ∷ []) n t) (makes p name n names misses listing room fresh))))))
         (λ o alone has. stays_refused limits t tree EEXIST))
 
-    pub stays_mkdir : (path : List ℕ) (mode : ℕ) → mode ≤ MODE_BITS → LeavesTree limits (changing.makes_directory limits now t path mode)
-    stays_mkdir path mode few =
-        stays_creates path (λ p n. with_directory p n mode) (λ p name n names misses listing room fresh.
-        placed_is_tree limits t tree p name (directory n) t.bytes (with_attributes n (new_attributes mode) t).attributes misses.directory misses.free misses.good (directory_joins limits t tree n fresh.low fresh.high fresh.free mode few) names listing room)
+    pub stays_mkdir : (path : List ℕ) (permissions : Permissions) → FitAttributes limits.has_attributes (new_attributes permissions) → LeavesTree limits (changing.makes_directory limits now t path permissions)
+    stays_mkdir path permissions fits =
+        stays_creates path (λ p n. with_directory p n permissions) (λ p name n names misses listing room fresh.
+        placed_is_tree limits t tree p name (directory n) t.bytes (with_attributes n (new_attributes permissions) t).attributes misses.directory misses.free misses.good (directory_joins limits t tree n fresh.low fresh.high fresh.free permissions fits) names listing room)
 
-    pub stays_symlink : (text path : List ℕ) → LeavesTree limits (changing.makes_symlink limits now t text path)
-    stays_symlink text path =
-        stays_passed limits t tree (changing.link_text_tests limits text) (changing.creates limits now t path (λ p n. with_symlink p n text)) (λ pass.
-        stays_creates path (λ p n. with_symlink p n text) (λ p name n names misses listing room fresh.
-        placed_is_tree limits t tree p name (symlink n text) t.bytes (with_attributes n (new_attributes LINK_MODE) t).attributes misses.directory misses.free misses.good (symlink_joins limits t tree n fresh.low fresh.high fresh.free text (link_text limits text pass)) names listing room))
+    pub stays_symlink : (text path : List ℕ) (permissions : Permissions) → FitAttributes limits.has_attributes (new_attributes permissions) → LeavesTree limits (changing.makes_symlink limits now t text path permissions)
+    stays_symlink text path permissions fits =
+        stays_passed limits t tree (changing.link_text_tests limits text) (changing.creates limits now t path (λ p n. with_symlink p n permissions text)) (λ pass.
+        stays_creates path (λ p n. with_symlink p n permissions text) (λ p name n names misses listing room fresh.
+        placed_is_tree limits t tree p name (symlink n text) t.bytes (with_attributes n (new_attributes permissions) t).attributes misses.directory misses.free misses.good (symlink_joins limits t tree n fresh.low fresh.high fresh.free permissions fits text (link_text limits text pass)) names listing room))
 
     -- a file gets one more name
     stays_linked : (p : Path) (o : Object) (path : List ℕ) → t.objects p ≡ Some o → first_refusal (new_text_tests limits path) ≡ None → LeavesTree limits (changing.links_object limits now t o path)
@@ -170,24 +171,24 @@ module _ (limits : Limits) (t : Tree) (tree : IsTree limits t) where
         opened n is u truncate =
             held_is_tree limits u truncate.is fd (descriptors.described_by n flags) below (inl (is.0, ap (λ f. f is.0) truncate.objects ∙ is.1)) (lit≤ tt) (λ g at_g. none_some (sym closed ∙ ap (λ f. f fd) (sym truncate.descriptors) ∙ at_g))
 
-    stays_opens_new : (tells : Bool) (p : Path) (name : Name) (flags : Flags) (mode fd : ℕ) → mode ≤ MODE_BITS → Misses t p name → fd < OPEN_FILES → t.descriptors fd ≡ None → LeavesTree limits (descriptors.opens_new tells limits now t p name flags mode fd)
-    stays_opens_new tells p name flags mode fd few misses below closed =
+    stays_opens_new : (tells : Bool) (p : Path) (name : Name) (flags : Flags) (permissions : Permissions) (fd : ℕ) → FitAttributes limits.has_attributes (new_attributes permissions) → Misses t p name → fd < OPEN_FILES → t.descriptors fd ≡ None → LeavesTree limits (descriptors.opens_new tells limits now t p name flags permissions fd)
+    stays_opens_new tells p name flags permissions fd fits misses below closed =
         stays_passed limits t tree ((not flags.creates, ENOENT) ∷ []) _ (λ pass.
         stays_place limits t tree p _ (λ names listing room. stays_fresh limits t tree _ (λ n fresh.
-        let made : Tree = with_file (p ++ name ∷ []) n mode t in
+        let made : Tree = with_file (p ++ name ∷ []) n permissions t in
         let touches : Touches = touches_entry Data (Some n) (number_at_path t p) in
         stays_opens_file tells n flags fd (marked now touches made) (logs adds_name)
         (held_is_tree limits (marked now touches made)
-        (entered_is Data n p made (placed_is_tree limits t tree p name (file n) (with_bytes n [] t).bytes (with_attributes n (new_attributes mode) t).attributes misses.directory misses.free misses.good (file_joins limits t tree n fresh.low fresh.high fresh.free mode few) names listing room))
+        (entered_is Data n p made (placed_is_tree limits t tree p name (file n) (with_bytes n [] t).bytes (with_attributes n (new_attributes permissions) t).attributes misses.directory misses.free misses.good (file_joins limits t tree n fresh.low fresh.high fresh.free permissions fits) names listing room))
         fd (descriptors.described_by n flags) below (inl (p ++ name ∷ [], ap (λ f. f (p ++ name ∷ [])) (marked_objects now touches made) ∙ put-here (p ++ name ∷ []) (Some (file n)) t.objects)) (lit≤ tt) (λ g at_g. none_some (sym closed ∙ ap (λ f. f fd) (sym (marked_descriptors now touches made)) ∙ at_g))))))
 
-    pub stays_open : (tells : Bool) (below : ℕ) (path : List ℕ) (flags : Flags) (mode : ℕ) → mode ≤ MODE_BITS → LeavesTree limits (descriptors.opens tells below limits now t path flags mode)
-    stays_open tells below path flags mode few =
+    pub stays_open : (tells : Bool) (below : ℕ) (path : List ℕ) (flags : Flags) (permissions : Permissions) → FitAttributes limits.has_attributes (new_attributes permissions) → LeavesTree limits (descriptors.opens tells below limits now t path flags permissions)
+    stays_open tells below path flags permissions fits =
         let follow : Bool = not (flags.creates && flags.exclusive) in
         stays_tested limits t tree (text_tests_then limits (descriptors.open_tests flags) path) _ (λ e.
         elim (lowest_free t.descriptors (min below OPEN_FILES)) as (λ o. lowest_free t.descriptors (min below OPEN_FILES) ≡ o → LeavesTree limits (elim o as (λ _. Outcome) [
           | None ↦ refuses t EMFILE
-          | Some fd ↦ goes_along t follow path (λ p o. descriptors.opens_object tells now t o flags fd) (λ p name. descriptors.opens_new tells limits now t p name flags mode fd)
+          | Some fd ↦ goes_along t follow path (λ p o. descriptors.opens_object tells now t o flags fd) (λ p name. descriptors.opens_new tells limits now t p name flags permissions fd)
         ])) [
           | None ↦ λ is. stays_refused limits t tree EMFILE
           | Some fd ↦ λ is.
@@ -195,6 +196,6 @@ module _ (limits : Limits) (t : Tree) (tree : IsTree limits t) where
               let below : fd < OPEN_FILES = omega (arith, free.0, min-le_right below OPEN_FILES) in
               stays_along limits t tree follow path _ _ (λ r reached. stays_leads limits t tree r _ _ (reached_well limits t tree (descriptors.open_tests flags) follow path e r reached)
               (λ p o at at_p. stays_opens_object tells o flags fd (p, at_p, refl) below free.1)
-              (λ p name at misses. stays_opens_new tells p name flags mode fd few misses below free.1))
+              (λ p name at misses. stays_opens_new tells p name flags permissions fd fits misses below free.1))
               (λ o alone has. stays_opens_object tells o flags fd has below free.1)
         ] refl)

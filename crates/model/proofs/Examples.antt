@@ -14,7 +14,7 @@ use Rattle.model.specs.declared.command.Whence.TheVariants as whence
 use Rattle.model.specs.declared.command.Access.TheVariants as access
 use Rattle.model.specs.declared.command.Flags.{Flags}
 use Rattle.model.specs.declared.attributes.Attributes.{Attributes}
-use Rattle.model.specs.Attributes.{new_attributes}
+use Rattle.model.specs.Attributes.{mode_alone, new_attributes}
 use Rattle.model.specs.Paths.{Name, Path, path_eq}
 use Rattle.model.specs.Trees.{Tree, Object, number_of_object, Description, IsUsed, directory, symlink, file, root_alone}
 use Rattle.model.specs.Edits.{resized, written, read_at, with_object, with_directory, with_file, with_bytes, with_descriptor, without_object, moved}
@@ -47,8 +47,8 @@ opened offset = record { number = 6; offset = offset; reads = true; writes = tru
 -- directories `/a` and `/a/b`, and the file `/f` of three bytes, which is open
 abbrev small : Tree
 small =
-    with_descriptor 0 (Some (opened 2)) (with_bytes 6 (97 ∷ 98 ∷ 99 ∷ []) (with_file (name_f ∷ []) 6 0o644
-    (with_directory (name_a ∷ name_b ∷ []) 5 0o700 (with_directory (name_a ∷ []) 4 0o755 (root_alone 0o755)))))
+    with_descriptor 0 (Some (opened 2)) (with_bytes 6 (97 ∷ 98 ∷ 99 ∷ []) (with_file (name_f ∷ []) 6 (mode_alone 0o644)
+    (with_directory (name_a ∷ name_b ∷ []) 5 (mode_alone 0o700) (with_directory (name_a ∷ []) 4 (mode_alone 0o755) (root_alone 0o755)))))
 
 -- a directory moves with what it holds
 moved_with_it : ((moved (name_a ∷ []) (name_c ∷ []) small).objects (name_c ∷ name_b ∷ []) ≡ Some (directory 5)) × ((moved (name_a ∷ []) (name_c ∷ []) small).objects (name_a ∷ name_b ∷ []) ≡ None)
@@ -142,19 +142,19 @@ abbrev plainly : Flags
 plainly = record { access = access.Both; creates = false; exclusive = false; truncates = false; appends = false }
 
 -- the lowest free descriptor
-opens_again : opens false 32 limits None small (codes "/f") plainly 0o644 (reply.Fd 1) (with_descriptor 1 (Some (opened 0)) small) nothing
+opens_again : opens false 32 limits None small (codes "/f") plainly (mode_alone 0o644) (reply.Fd 1) (with_descriptor 1 (Some (opened 0)) small) nothing
 opens_again = (refl, refl, refl)
 
-opens_directory : opens false 32 limits None small (codes "/a") plainly 0o644 (reply.Refused EISDIR) small nothing
+opens_directory : opens false 32 limits None small (codes "/a") plainly (mode_alone 0o644) (reply.Refused EISDIR) small nothing
 opens_directory = (refl, refl, refl)
 
-truncates_what_it_reads : opens false 32 limits None small (codes "/x") (record plainly { access = access.Reading; truncates = true }) 0o644 (reply.Refused EINVAL) small nothing
+truncates_what_it_reads : opens false 32 limits None small (codes "/x") (record plainly { access = access.Reading; truncates = true }) (mode_alone 0o644) (reply.Refused EINVAL) small nothing
 truncates_what_it_reads = (refl, refl, refl)
 
-opens_exclusively : opens false 32 limits None small (codes "/f") (record plainly { creates = true; exclusive = true }) 0o644 (reply.Refused EEXIST) small nothing
+opens_exclusively : opens false 32 limits None small (codes "/f") (record plainly { creates = true; exclusive = true }) (mode_alone 0o644) (reply.Refused EEXIST) small nothing
 opens_exclusively = (refl, refl, refl)
 
-opens_and_truncates : opens false 32 limits None small (codes "/f") (record plainly { truncates = true }) 0o644 (reply.Fd 1) (with_descriptor 1 (Some (opened 0)) (with_bytes 6 [] small)) (logs (changes_size 3 0))
+opens_and_truncates : opens false 32 limits None small (codes "/f") (record plainly { truncates = true }) (mode_alone 0o644) (reply.Fd 1) (with_descriptor 1 (Some (opened 0)) (with_bytes 6 [] small)) (logs (changes_size 3 0))
 opens_and_truncates = (refl, refl, refl)
 
 abbrev full : Room
@@ -184,7 +184,7 @@ deleted = (refl, refl, refl)
 
 -- `/a`, and links `/x` to `/a`, `/xx` to `x`, and so on: nine of them
 abbrev chain : ℕ → Tree
-chain zero = with_directory (name_a ∷ []) 4 0o755 (root_alone 0o755)
+chain zero = with_directory (name_a ∷ []) 4 (mode_alone 0o755) (root_alone 0o755)
 chain (suc k) = with_object (replicate (suc k) 120 ∷ []) (symlink (5 + k) (elim k [ zero ↦ codes "/a" | suc j ↦ replicate (suc j) 120 ])) (chain k)
 
 eight_links : resolve (chain 9) true (codes "/" ++ replicate 8 120) ≡ named (name_a ∷ [])
@@ -201,7 +201,7 @@ reads_the_ninth = (refl, refl, refl)
 
 -- the file `/f`, number 4, is open
 abbrev tiny : Tree
-tiny = with_descriptor 0 (Some (record (opened 0) { number = 4 })) (with_file (name_f ∷ []) 4 0o644 (root_alone 0o755))
+tiny = with_descriptor 0 (Some (record (opened 0) { number = 4 })) (with_file (name_f ∷ []) 4 (mode_alone 0o644) (root_alone 0o755))
 
 -- its name was taken away
 abbrev orphans : Tree
@@ -209,7 +209,7 @@ orphans = without_object (name_f ∷ []) tiny
 
 -- it was closed then
 abbrev closed : Tree
-closed = record (with_descriptor 0 None orphans) { bytes = λ n. None; attributes = λ n. if n == 3 then Some (new_attributes 0o755) else None }
+closed = record (with_descriptor 0 None orphans) { bytes = λ n. None; attributes = λ n. if n == 3 then Some (new_attributes (mode_alone 0o755)) else None }
 
 only_root : (p : Path) (o : Object) → orphans.objects p ≡ Some o → o ≡ directory 3
 only_root p o =
@@ -236,7 +236,7 @@ unlink_open = (
     kept = λ n used. (refl, refl);
     gone = λ n unused. (
       cond_both (n == 4) (Some []) None (λ (r : Option (List ℕ)). r ≡ None) (λ e. absurd (unused (subst (IsUsed orphans) (sym (eqb-true n 4 e)) file_used))) (λ e. refl),
-      cond_both (n == 4) (Some (new_attributes 0o644)) _ (λ (r : Option Attributes). r ≡ None) (λ e. absurd (unused (subst (IsUsed orphans) (sym (eqb-true n 4 e)) file_used))) (λ e. cond_both (n == 3) (Some (new_attributes 0o755)) None (λ (r : Option Attributes). r ≡ None) (λ f. absurd (unused (subst (IsUsed orphans) (sym (eqb-true n 3 f)) root_used))) (λ f. refl)),
+      cond_both (n == 4) (Some (new_attributes (mode_alone 0o644))) _ (λ (r : Option Attributes). r ≡ None) (λ e. absurd (unused (subst (IsUsed orphans) (sym (eqb-true n 4 e)) file_used))) (λ e. cond_both (n == 3) (Some (new_attributes (mode_alone 0o755))) None (λ (r : Option Attributes). r ≡ None) (λ f. absurd (unused (subst (IsUsed orphans) (sym (eqb-true n 3 f)) root_used))) (λ f. refl)),
     );
   },
   refl,
@@ -268,7 +268,7 @@ close_last = (
     objects = refl;
     descriptors = refl;
     kept = λ n used. subst (λ k. (closed.bytes k ≡ orphans.bytes k) × (closed.attributes k ≡ orphans.attributes k)) (sym (closed_used n used)) (refl, refl);
-    gone = λ n unused. (refl, cond_both (n == 3) (Some (new_attributes 0o755)) None (λ (r : Option Attributes). r ≡ None) (λ e. absurd (unused (subst (IsUsed (with_descriptor 0 None orphans)) (sym (eqb-true n 3 e)) (inl ([], directory 3, refl, refl))))) (λ e. refl));
+    gone = λ n unused. (refl, cond_both (n == 3) (Some (new_attributes (mode_alone 0o755))) None (λ (r : Option Attributes). r ≡ None) (λ e. absurd (unused (subst (IsUsed (with_descriptor 0 None orphans)) (sym (eqb-true n 3 e)) (inl ([], directory 3, refl, refl))))) (λ e. refl));
   },
   refl,
 )

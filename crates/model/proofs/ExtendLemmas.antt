@@ -1,12 +1,12 @@
 -- A replayed volume beside the running one: each record applies to both, and at the end both are the same.
-use Rattle.std.proofs.Common.{◌≡◌, ◌⊎◌, inl, inr, ℕ, zero, suc, ◌==◌, ◌||◌, List, Bool, true, false, Option, Some, None, is_some, IsSome, refl, sym, ap, subst, ◌∙◌}
+use Rattle.std.proofs.Common.{◌≡◌, ◌⊎◌, inl, inr, ℕ, zero, suc, ◌==◌, List, Bool, true, false, Option, Some, None, is_some, IsSome, refl, sym, ap, subst, ◌∙◌}
 use Rattle.std.specs.Prelude.{[], length, unwrap_or, if◌then◌else◌, IsTrue, IsFalse}
 use Rattle.std.proofs.Math.Path.{fun_ext}
 use Rattle.std.proofs.lemmas.Bool.{false≢true}
 use Rattle.model.specs.declared.limits.Limits.{Limits}
 use Rattle.model.specs.declared.attributes.Touch.TheVariants.{Status}
 use Rattle.model.specs.declared.limits.TheConstants.{OPEN_FILES}
-use Rattle.model.specs.Attributes.{set_mode}
+use Rattle.model.specs.Attributes.{set_given, set_mode}
 use Rattle.model.specs.Counting.{Counts}
 use Rattle.model.specs.Paths.{Name}
 use Rattle.model.specs.Edits.{written, resized}
@@ -15,8 +15,9 @@ use Rattle.model.specs.Trees.{Description}
 use Rattle.model.specs.Volumes.{Node, directory_node, file_node, link_node, Volume, Entries, bytes_of_node, names_in, entries, with_node, set_name, with_entry, is_file_node, is_directory_node, is_orphan, with_name_less, with_name_more, released, is_open, swept_node, swept}
 use Rattle.model.specs.Laws.{ReplayFollows, ReplayEndsSame, ReplaysCostTheSame}
 use Rattle.model.specs.Room.{puts_bytes, changes_size}
-use Rattle.model.specs.Records.{Change, Edit, create, link, remove_name, rename, write, truncate, change_mode, set_file, node_of, with_file_bytes, with_node_attributes, with_size, edited, touches_of, marked_nodes, applied, IsBelow, TakesName, IsEmpty, is_vacant, CanReplace, CanEdit, Applies, without_orphans, Extends, work_by}
+use Rattle.model.specs.Records.{Change, Edit, create, link, remove_name, rename, write, truncate, change_attributes, set_file, node_of, with_file_bytes, with_node_attributes, with_size, edited, touches_of, marked_nodes, applied, IsBelow, TakesName, IsEmpty, is_vacant, CanReplace, TakesMode, CanEdit, Applies, without_orphans, Extends, work_by}
 use Rattle.model.proofs.MarkLemmas.{attributes_vacant, extends-marked}
+use Rattle.model.proofs.MoveLemmas.{takes_there}
 use Rattle.model.proofs.OptionLaws.{some_or_none}
 
 -- what has no object has no names, whatever stands for it
@@ -180,7 +181,8 @@ module _ (v w : Volume) (extends : Extends v w) where
   edit_too limits (write number offset bytes) can = (ap is_file_node (file_kept number can.0) ∙ can.0, can.1, can.2, can.3)
   edit_too limits (truncate number size) can = (ap is_file_node (file_kept number can.0) ∙ can.0, can.1)
   edit_too limits (set_file number mode size) can = (ap is_file_node (file_kept number can.0) ∙ can.0, can.1, can.2)
-  edit_too limits (change_mode number mode) can = (ap (λ o. is_file_node o || is_directory_node o) (kept_by (λ o. is_file_node o || is_directory_node o) refl number can.0) ∙ can.0, can.1)
+  edit_too limits (change_attributes number permissions modified) can =
+      (subst (λ o. TakesMode limits.has_attributes o permissions.mode) (sym (extends.kept number (takes_there limits.has_attributes (v number) permissions.mode can.0))) can.0, can.1)
 
   pub applies_too : (limits : Limits) (change : Change) → Applies limits v change → Applies limits w change
   applies_too limits change can = record { time = can.time; edit = edit_too limits change.edit can.edit }
@@ -195,7 +197,7 @@ module _ (v w : Volume) (extends : Extends v w) where
       ∙ ap (λ o. touches_move (entries v parent name) o (Some parent) (Some new_parent)) (same_names new_parent new_name)
   touches_too (write number offset bytes) = refl
   touches_too (truncate number size) = refl
-  touches_too (change_mode number mode) = refl
+  touches_too (change_attributes number permissions modified) = refl
   touches_too (set_file number mode size) = refl
 
   -- behind the last record, both are the same
@@ -263,7 +265,8 @@ edited_too v w extends limits (rename parent name new_parent new_name) can =
     new_parent new_name (entries v parent name) (entries w parent name) (same_names v w extends parent name)
 edited_too v w extends limits (write number offset bytes) can = with_both v w extends number (with_file_bytes (written offset bytes)) refl (bytes_vacant (written offset bytes))
 edited_too v w extends limits (truncate number size) can = with_both v w extends number (with_file_bytes (resized size)) refl (bytes_vacant (resized size))
-edited_too v w extends limits (change_mode number mode) can = with_both v w extends number (with_node_attributes (set_mode mode)) refl (λ o vacant. attributes_vacant (set_mode mode) o ∙ vacant)
+edited_too v w extends limits (change_attributes number permissions modified) can =
+    with_both v w extends number (with_node_attributes (set_given permissions modified)) refl (λ o vacant. attributes_vacant (set_given permissions modified) o ∙ vacant)
 edited_too v w extends limits (set_file number mode size) can =
     with_both (with_size number size v) (with_size number size w) (with_both v w extends number (with_file_bytes (resized size)) refl (bytes_vacant (resized size))) number (with_node_attributes (set_mode mode)) refl (λ o vacant. attributes_vacant (set_mode mode) o ∙ vacant)
 
@@ -289,7 +292,7 @@ edits_cost_the_same limits v w (remove_name parent name) extends can = refl
 edits_cost_the_same limits v w (rename parent name new_parent new_name) extends can = refl
 edits_cost_the_same limits v w (write number offset bytes) extends can = ap (λ o. puts_bytes (length (unwrap_or (bytes_of_node o) [])) offset (length bytes)) (file_kept v w extends number can.0)
 edits_cost_the_same limits v w (truncate number size) extends can = ap (λ o. changes_size (length (unwrap_or (bytes_of_node o) [])) size) (file_kept v w extends number can.0)
-edits_cost_the_same limits v w (change_mode number mode) extends can = refl
+edits_cost_the_same limits v w (change_attributes number permissions modified) extends can = refl
 edits_cost_the_same limits v w (set_file number mode size) extends can = ap (λ o. changes_size (length (unwrap_or (bytes_of_node o) [])) size) (file_kept v w extends number can.0)
 
 pub costs_the_same : ReplaysCostTheSame

@@ -8,6 +8,7 @@ use Rattle.model.specs.declared.command.Command.TheVariants as command
 use Rattle.model.specs.declared.command.PathCall.TheVariants as call
 use Rattle.model.specs.Paths.{Path}
 use Rattle.model.specs.Trees.{Tree, Description, root_alone}
+use Rattle.model.specs.Attributes.{mode_alone}
 use Rattle.model.specs.Edits.{written, with_bytes, with_directory, with_file, with_descriptor}
 use Rattle.model.specs.Room.{Room, nothing, logs, a_snapshot, adds_name, removes_name, puts_bytes, changes_bits, IsShort}
 use Rattle.model.specs.Reading.{stats, gets}
@@ -26,10 +27,10 @@ at_offset offset = record { number = 4; offset = offset; reads = true; writes = 
 
 -- the file `/f` of these bytes, open at this offset
 abbrev file_of : List ℕ → ℕ → Tree
-file_of bytes offset = with_descriptor 0 (Some (at_offset offset)) (with_bytes 4 bytes (with_file at_f 4 0o644 (root_alone 0o755)))
+file_of bytes offset = with_descriptor 0 (Some (at_offset offset)) (with_bytes 4 bytes (with_file at_f 4 (mode_alone 0o644) (root_alone 0o755)))
 
 file_of_is : (bytes : List ℕ) (offset : ℕ) → Told (file_of bytes offset) (at_f ∷ [] ∷ []) (0 ∷ []) (4 ∷ 4 ∷ 4 ∷ 3 ∷ [])
-file_of_is bytes offset = told_descriptor (told_bytes (told_file (told_root 0o755) at_f 4 0o644) 4 bytes) 0 (Some (at_offset offset))
+file_of_is bytes offset = told_descriptor (told_bytes (told_file (told_root 0o755) at_f 4 (mode_alone 0o644)) 4 bytes) 0 (Some (at_offset offset))
 
 -- `write 0` of 128 bytes, and of one more
 
@@ -95,7 +96,7 @@ with_file_full = with_tree (file_of full 65536) (empty limits)
 short_for_a_directory : IsShortFor (room_of 43 0) with_file_full (command.Path (call.Mkdir (codes "/a") 0o755))
 short_for_a_directory = (
   reply.Done,
-  with_tree (with_directory (codes "a" ∷ []) 5 0o755 (file_of full 65536)) with_file_full,
+  with_tree (with_directory (codes "a" ∷ []) 5 (mode_alone 0o755) (file_of full 65536)) with_file_full,
   logs adds_name,
   ((codes "f" ∷ [], listing_told (file_of_is full 65536) [] (codes "f" ∷ []) refl, (Some 5, fresh_told (file_of_is full 65536) limits 1 (lit≤ tt) refl refl, (refl, refl, refl))), refl),
   (refl, lit≤ tt),

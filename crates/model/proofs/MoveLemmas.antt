@@ -1,21 +1,21 @@
 -- A record that applies, by the paths of its directories; and that what it does keeps a volume.
-use Rattle.std.proofs.Common.{◌≡◌, ◌≢◌, inl, inr, ℕ, ◌≤◌, ◌<◌, List, [], ◌∷◌, ◌++◌, fold, length, true, Option, Some, None, is_some, IsSome, IfSome, refl, sym, ap, subst, ◌∙◌, arith, lit≤}
+use Rattle.std.proofs.Common.{◌≡◌, ◌≢◌, inl, inr, ℕ, ◌≤◌, ◌<◌, List, [], ◌∷◌, ◌++◌, fold, length, Bool, true, Option, Some, None, is_some, IsSome, IfSome, refl, sym, ap, subst, ◌∙◌, arith}
 use Rattle.std.proofs.lemmas.Bool.{cases_eq}
 use Rattle.std.proofs.lemmas.List.{same_from_push}
 use Rattle.std.proofs.lemmas.List.Sums.{fold-append}
 use Rattle.model.specs.declared.limits.Limits.{Limits}
 use Rattle.model.specs.declared.attributes.Attributes.{Attributes}
-use Rattle.model.specs.declared.limits.TheConstants.{LINK_MODE, MODE_BITS, ROOT_NUMBER}
-use Rattle.model.specs.Attributes.{FitAttributes, set_mode}
+use Rattle.model.specs.declared.limits.TheConstants.{MODE_BITS, ROOT_NUMBER}
+use Rattle.model.specs.Attributes.{FitAttributes, set_given, set_mode}
 use Rattle.model.specs.Counting.{Counts}
 use Rattle.model.specs.Limits.{AreLimits}
 use Rattle.model.specs.Paths.{Name, Path, IsName, behind}
 use Rattle.model.specs.Trees.{Description}
 use Rattle.model.specs.Edits.{written, resized}
 use Rattle.model.specs.Volumes.{Node, directory_node, file_node, link_node, Volume, Entries, names_in, entries, enter, number_at, with_node, with_edge, with_entry, is_file_node, is_directory_node, IsGraph, IsNode, IsVolume, with_name_more, released, created, linked, unnamed, renamed, swept}
-use Rattle.model.specs.Records.{Made, file, directory, symbolic_link, Edit, create, link, remove_name, rename, write, truncate, change_mode, set_file, node_of, with_file_bytes, with_node_attributes, with_size, with_bits, edited, IsMade, CanReplace, CanRename, CanEdit}
+use Rattle.model.specs.Records.{Made, file, directory, symbolic_link, Edit, create, link, remove_name, rename, write, truncate, change_attributes, set_file, node_of, with_file_bytes, with_node_attributes, with_size, with_bits, edited, IsMade, TakesMode, CanReplace, CanRename, CanEdit}
 use Rattle.model.specs.Laws.{SweepsKeepVolumes}
-use Rattle.model.proofs.AttributeLaws.{new_fit, set_fit}
+use Rattle.model.proofs.AttributeLaws.{given_fit, set_fit}
 use Rattle.model.proofs.WalkLemmas.{behind-is, edge_other}
 use Rattle.model.proofs.VolumeLemmas.{directory_some, directory_no_file, enters_directory}
 use Rattle.model.proofs.KeptLemmas.{volume-renamed, entries-renamed}
@@ -141,19 +141,19 @@ module _ {limits : Limits} (v : Volume) (graph : IsGraph v) (d : ℕ) (a : Name)
 
 -- the limits of what is made and of what changes
 made_good : (limits : Limits) → AreLimits limits → (made : Made) → IsMade limits made → IsNode limits (node_of made)
-made_good limits can_be (file mode) good = (new_fit limits.has_attributes mode good, can_be.named, omega arith)
-made_good limits can_be (directory mode) good = new_fit limits.has_attributes mode good
-made_good limits can_be (symbolic_link text) good = (new_fit limits.has_attributes LINK_MODE (lit≤ tt), good)
+made_good limits can_be (file permissions) good = (good, can_be.named, omega arith)
+made_good limits can_be (directory permissions) good = good
+made_good limits can_be (symbolic_link permissions text) good = (good.0, good.2)
 
 pub made_bare : (made : Made) (x : Name) → names_in (Some (node_of made)) x ≡ None
-made_bare (file mode) x = refl
-made_bare (directory mode) x = refl
-made_bare (symbolic_link text) x = refl
+made_bare (file permissions) x = refl
+made_bare (directory permissions) x = refl
+made_bare (symbolic_link permissions text) x = refl
 
 pub made_links : (made : Made) (attributes : Attributes) (links : ℕ) (bytes : List ℕ) → Some (node_of made) ≡ Some (file_node attributes links bytes) → links ≡ 1
-made_links (file m) attributes links bytes is = cc
-made_links (directory m) attributes links bytes is = cc
-made_links (symbolic_link text) attributes links bytes is = cc
+made_links (file permissions) attributes links bytes is = cc
+made_links (directory permissions) attributes links bytes is = cc
+made_links (symbolic_link permissions text) attributes links bytes is = cc
 
 more_good : (limits : Limits) (o : Option Node) (attributes : Attributes) (links : ℕ) (bytes : List ℕ) → o ≡ Some (file_node attributes links bytes) → links < limits.file_names → IfSome o (IsNode limits) → IfSome (with_name_more o) (IsNode limits)
 more_good limits None attributes links bytes is few good = tt
@@ -241,15 +241,22 @@ attributes_good limits f (Some (link_node attributes text)) fits good = (fits at
 resized_short : (limits : Limits) (size : ℕ) (bytes : List ℕ) → size ≤ limits.file_bytes → length bytes ≤ limits.file_bytes → length (resized size bytes) ≤ limits.file_bytes
 resized_short limits size bytes fits short = subst (λ k. k ≤ limits.file_bytes) (sym (length-resized size bytes)) fits
 
--- a file's size changes, or a mode
+-- a file's size changes, or an object's attributes
 volume-size : (limits : Limits) (v : Volume) → IsVolume limits v → (number size : ℕ) → size ≤ limits.file_bytes → IsVolume limits (with_size number size v)
 volume-size limits v volume number size fits = volume-bytes limits v volume number (resized size) (λ old short. resized_short limits size old fits short)
 
-volume-bits : (limits : Limits) (v : Volume) → IsVolume limits v → (number mode : ℕ) → mode ≤ MODE_BITS → IsVolume limits (with_bits number mode v)
-volume-bits limits v volume number mode few =
-    let f = set_mode mode in
+volume-attributes : (limits : Limits) (v : Volume) → IsVolume limits v → (number : ℕ) (f : Attributes → Attributes) → ((a : Attributes) → FitAttributes limits.has_attributes a → FitAttributes limits.has_attributes (f a)) → IsVolume limits (with_node number (with_node_attributes f (v number)) v)
+volume-attributes limits v volume number f fits =
     volume-altered limits v volume number (with_node_attributes f (v number)) (attributes_names f (v number)) (attributes_file f (v number)) (attributes_directory f (v number)) (attributes_is_some f (v number)) (attributes_links f (v number))
-    (attributes_good limits f (v number) (λ a fit. set_fit limits.has_attributes mode a few fit) (volume.keeps.nodes number))
+    (attributes_good limits f (v number) fits (volume.keeps.nodes number))
+
+volume-bits : (limits : Limits) (v : Volume) → IsVolume limits v → (number mode : ℕ) → mode ≤ MODE_BITS → IsVolume limits (with_bits number mode v)
+volume-bits limits v volume number mode few = volume-attributes limits v volume number (set_mode mode) (λ a fit. set_fit limits.has_attributes mode a few fit)
+
+-- what may get a mode is there
+pub takes_there : (has_attributes : Bool) (o : Option Node) (mode : ℕ) → TakesMode has_attributes o mode → is_some o ≡ true
+takes_there has_attributes None mode takes = absurd takes
+takes_there has_attributes (Some o) mode takes = refl
 
 -- what a record does keeps a volume
 pub edits_keep_volumes : (limits : Limits) (v : Volume) (edit : Edit) → IsVolume limits v → CanEdit limits v edit → IsVolume limits (edited edit v)
@@ -309,7 +316,8 @@ edits_keep_volumes limits v (rename parent name new_parent new_name) volume can 
     }
 edits_keep_volumes limits v (write number offset bytes) volume can = volume-bytes limits v volume number (written offset bytes) (λ old short. written_short offset bytes old can.3 short)
 edits_keep_volumes limits v (truncate number size) volume can = volume-size limits v volume number size can.1
-edits_keep_volumes limits v (change_mode number mode) volume can = volume-bits limits v volume number mode can.1
+edits_keep_volumes limits v (change_attributes number permissions modified) volume can =
+    volume-attributes limits v volume number (set_given permissions modified) (λ a fit. given_fit limits.has_attributes permissions modified a can.1 fit)
 edits_keep_volumes limits v (set_file number mode size) volume can =
     volume-bits limits (with_size number size v) (volume-size limits v volume number size can.2) number mode can.1
 

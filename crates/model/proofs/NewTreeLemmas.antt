@@ -3,7 +3,7 @@ use Rattle.std.proofs.Common.{◌≡◌, inl, inr, ℕ, ◌==◌, List, [], ◌�
 use Rattle.std.proofs.lemmas.Bool.{cases_Bool, cond_both, cond-true, cond-false, false≢true, eq-eqb, eqb-true}
 use Rattle.std.proofs.lemmas.List.Elements.{All-nil}
 use Rattle.model.specs.declared.limits.Limits.{Limits}
-use Rattle.model.specs.Attributes.{FitAttributes, new_attributes}
+use Rattle.model.specs.Attributes.{FitAttributes, mode_alone, new_attributes}
 use Rattle.model.specs.Limits.{AreLimits}
 use Rattle.model.specs.Paths.{Name, Path, IsName, path_eq}
 use Rattle.model.specs.Trees.{Tree, Object, directory, symlink, file, number_of_object, IsTree, root_alone}
@@ -51,10 +51,10 @@ root_is_tree limits can_be = record {
   attributes = λ n. (
     λ some. elim (cases_Bool (n == 3)) [
       | inl e ↦ inl ([], directory 3, refl, sym (eqb-true n 3 e))
-      | inr e ↦ absurd (false≢true (sym (ap is_some (cond-false (n == 3) (Some (new_attributes 0o755)) None e)) ∙ some))
+      | inr e ↦ absurd (false≢true (sym (ap is_some (cond-false (n == 3) (Some (new_attributes (mode_alone 0o755))) None e)) ∙ some))
     ],
     λ used. elim used [
-      | inl there ↦ ap is_some (cond-true (n == 3) (Some (new_attributes 0o755)) None (eq-eqb n 3 (sym there.3 ∙ ap number_of_object (root_at 0o755 there.0 there.1 there.2).1)))
+      | inl there ↦ ap is_some (cond-true (n == 3) (Some (new_attributes (mode_alone 0o755))) None (eq-eqb n 3 (sym there.3 ∙ ap number_of_object (root_at 0o755 there.0 there.1 there.2).1)))
       | inr open_file ↦ none_some open_file.2
     ],
   );
@@ -64,13 +64,13 @@ root_is_tree limits can_be = record {
   children = λ p is. (0, (λ name some. last_some name [] (append_empty p (name ∷ []) (root_some 0o755 (p ++ name ∷ []) some))), omega arith);
   links = λ n. (0, (λ p is. directory_file (sym (root_at 0o755 p (file n) is).1)), omega arith);
   sizes = λ n. tt;
-  fit = λ n. cond_both (n == 3) (Some (new_attributes 0o755)) None (λ o. IfSome o (FitAttributes limits.has_attributes)) (λ e. new_fit limits.has_attributes 0o755 (lit≤ tt)) (λ e. tt);
+  fit = λ n. cond_both (n == 3) (Some (new_attributes (mode_alone 0o755))) None (λ o. IfSome o (FitAttributes limits.has_attributes)) (λ e. new_fit limits.has_attributes 0o755 (lit≤ tt)) (λ e. tt);
   table = λ d past. refl;
   offsets = λ d f is. none_some is;
 }
 
 pub new_is_session : IsSession new_session
-new_is_session = record { time = epoch_is }
+new_is_session = record { time = epoch_is; owner = omega arith; group = omega arith }
 
 -- a tree without snapshots beside it
 pub tree_is_state : (limits : Limits) (t : Tree) (mark : Mark) → IsTree limits t → IsState (record { limits = limits; tree = t; snapshots = []; mark = mark; session = new_session })

@@ -5,13 +5,16 @@ use Rattle.std.proofs.Math.Path.{fun_ext}
 use Rattle.std.proofs.lemmas.Bool.{cases_Bool, cases_order, both_ways}
 use Rattle.std.proofs.lemmas.Slice.Eq.{bytes_eq-Decides}
 use Rattle.model.specs.declared.limits.Limits.{Limits}
+use Rattle.model.specs.declared.attributes.Permissions.{Permissions}
+use Rattle.model.specs.declared.session.Session.{Session}
 use Rattle.model.specs.declared.time.Time.{Time}
-use Rattle.model.specs.declared.limits.TheConstants.{ENTRIES_TOLD, OPEN_FILES}
+use Rattle.model.specs.declared.limits.TheConstants.{ENTRIES_TOLD, LINK_MODE, OPEN_FILES}
 use Rattle.model.specs.declared.errno.Errno.{Errno}
 use Rattle.model.specs.declared.errno.Errno.TheVariants.{ENOENT, ENOTDIR, EISDIR, EEXIST, EINVAL, EPERM, EBUSY, EBADF, EMFILE, EFBIG, EMLINK, EOVERFLOW, ELOOP, ENOTEMPTY, DIRFULL, NONUMBER, ESTALE}
 use Rattle.model.specs.declared.reply.Reply.{Reply}
 use Rattle.model.specs.declared.reply.Reply.TheVariants as reply
 use Rattle.model.specs.declared.command.Flags.{Flags}
+use Rattle.model.specs.declared.command.NewTime.{NewTime}
 use Rattle.model.specs.declared.command.Settings.{Settings}
 use Rattle.model.specs.declared.reply.Extent.{Extent}
 use Rattle.model.proofs.HoleLemmas.{extent_once}
@@ -19,7 +22,7 @@ use Rattle.model.specs.declared.command.Whence.{Whence}
 use Rattle.model.specs.declared.command.PathCall.{PathCall}
 use Rattle.model.specs.declared.command.PathCall.TheVariants as call
 use Rattle.model.specs.Paths.{Name, Path, Tests, first_refusal, text_tests_then, text_tests, new_text_tests, is_empty, is_root_text, parts_behind, path_eq, start_number}
-use Rattle.model.specs.Trees.{Tree, Object, directory, symlink, file, Description, HasNumber, HasPath, IsUsed}
+use Rattle.model.specs.Trees.{Tree, Object, directory, symlink, file, Description, HasNumber, HasPath, IsUsed, number_of_object}
 use Rattle.model.specs.Edits.{contents, with_descriptor, with_directory, with_symlink, IsSwept}
 use Rattle.model.specs.Resolution.{Resolution, named, missing, refused, resolve, resolve_within}
 use Rattle.model.specs.Room.{Need}
@@ -27,6 +30,7 @@ use Rattle.model.specs.Outcomes.{Outcome, answers, refuses, changes, changes_swe
 use Rattle.model.specs.Reading as reading
 use Rattle.model.specs.Changing as changing
 use Rattle.model.specs.Descriptors as descriptors
+use Rattle.model.specs.Sessions.{call_time, new_permissions}
 use Rattle.model.specs.States.{ForgetsOpenFiles}
 use Rattle.model.specs.Steps.{calls}
 use Rattle.model.proofs.AttributeLaws.{attributes_apart}
@@ -228,6 +232,13 @@ once_tells t o = once_links t o _ (λ links. once_answers t _)
 once_stat : (limits : Limits) (t : Tree) (follow : Bool) (path : List ℕ) → Once (reading.stats limits t follow path)
 once_stat limits t follow path = once_tested t (text_tests limits path) _ (once_to t follow path _ (λ p o. once_tells t o))
 
+once_attributes : (t : Tree) (o : Object) → Once (reading.tells_attributes t o)
+once_attributes t o = once_links t o _ (λ links. once_answers t _)
+
+once_attr : (limits : Limits) (t : Tree) (follow : Bool) (path : List ℕ) → Once (reading.attributes limits t follow path)
+once_attr limits t follow path =
+    once_tested t (reading.attribute_tests limits ++ text_tests limits path) _ (once_to t follow path _ (λ p o. once_attributes t o))
+
 once_list : (limits : Limits) (t : Tree) (path : List ℕ) → Once (reading.lists limits t path)
 once_list limits t path =
     once_tested t (text_tests limits path) _
@@ -286,9 +297,9 @@ once_creates limits now t path make =
     once_tested t (new_text_tests limits path) _
     (once_along t false path _ _ (λ p o. once_refuses t EEXIST) (λ p name. once_place limits t p _ (once_fresh limits t _ (λ n. once_changes _ _ _))))
 
-once_symlink : (limits : Limits) (now : Option Time) (t : Tree) (text path : List ℕ) → Once (changing.makes_symlink limits now t text path)
-once_symlink limits now t text path =
-    once_tested t (changing.link_text_tests limits text) _ (once_creates limits now t path (λ p n. with_symlink p n text))
+once_symlink : (limits : Limits) (now : Option Time) (t : Tree) (text path : List ℕ) (permissions : Permissions) → Once (changing.makes_symlink limits now t text path permissions)
+once_symlink limits now t text path permissions =
+    once_tested t (changing.link_text_tests limits text) _ (once_creates limits now t path (λ p n. with_symlink p n permissions text))
 
 once_removes : (now : Option Time) (t : Tree) (p : Path) → Once (changing.removes now t p)
 once_removes now t p = once_swept _ _ _
@@ -330,6 +341,23 @@ once_chmod limits now t path mode =
     once_tested t (text_tests limits path) _
     (once_to t true path _ (λ p o. once_by_kind o _ _ _ (λ n. once_changes _ _ _) (λ n text. never_once) (λ n. once_changes _ _ _)))
 
+once_owners : (now : Option Time) (t : Tree) (n : ℕ) (owner group : Option ℕ) → Once (changing.gives_owners now t n owner group)
+once_owners now t n owner group = once_either _ _ _ (once_answers t _) (once_changes _ _ _)
+
+once_time : (now : Option Time) (t : Tree) (n : ℕ) (time : Option Time) → Once (changing.gives_time now t n time)
+once_time now t n None = once_answers t _
+once_time now t n (Some time) = once_changes _ _ _
+
+once_chown : (limits : Limits) (now : Option Time) (t : Tree) (follow : Bool) (path : List ℕ) (owner group : Option ℕ) → Once (changing.changes_owners limits now t follow path owner group)
+once_chown limits now t follow path owner group =
+    once_tested t (reading.attribute_tests limits ++ text_tests limits path) _
+    (once_to t follow path _ (λ p o. once_owners now t (number_of_object o) owner group))
+
+once_utimens : (limits : Limits) (now : Option Time) (t : Tree) (follow : Bool) (path : List ℕ) (time : NewTime) → Once (changing.changes_times limits now t follow path time)
+once_utimens limits now t follow path time =
+    once_tested t (reading.attribute_tests limits ++ text_tests limits path ++ changing.time_tests time) _
+    (once_to t follow path _ (λ p o. once_time now t (number_of_object o) (changing.meant_time now time)))
+
 once_truncate : (limits : Limits) (now : Option Time) (t : Tree) (path : List ℕ) (size : ℤ) → Once (changing.truncates limits now t path size)
 once_truncate limits now t path size =
     once_tested t (text_tests_then limits (changing.size_tests limits size) path) _
@@ -358,19 +386,19 @@ once_opens_object : (tells : Bool) (now : Option Time) (t : Tree) (o : Object) (
 once_opens_object tells now t o flags fd =
     once_test t _ EEXIST _ (once_by_kind o _ _ _ (λ n. once_refuses t EISDIR) (λ n text. never_once) (λ n. once_either _ _ _ (once_opens_file tells n flags fd _ _) (once_opens_file tells n flags fd _ _)))
 
-once_opens_new : (tells : Bool) (limits : Limits) (now : Option Time) (t : Tree) (p : Path) (name : Name) (flags : Flags) (mode fd : ℕ) → Once (descriptors.opens_new tells limits now t p name flags mode fd)
-once_opens_new tells limits now t p name flags mode fd =
+once_opens_new : (tells : Bool) (limits : Limits) (now : Option Time) (t : Tree) (p : Path) (name : Name) (flags : Flags) (permissions : Permissions) (fd : ℕ) → Once (descriptors.opens_new tells limits now t p name flags permissions fd)
+once_opens_new tells limits now t p name flags permissions fd =
     once_test t _ ENOENT _ (once_place limits t p _ (once_fresh limits t _ (λ n. once_opens_file tells n flags fd _ _)))
 
-pub once_open : (tells : Bool) (below : ℕ) (limits : Limits) (now : Option Time) (t : Tree) (path : List ℕ) (flags : Flags) (mode : ℕ) → Once (descriptors.opens tells below limits now t path flags mode)
-once_open tells below limits now t path flags mode =
+pub once_open : (tells : Bool) (below : ℕ) (limits : Limits) (now : Option Time) (t : Tree) (path : List ℕ) (flags : Flags) (permissions : Permissions) → Once (descriptors.opens tells below limits now t path flags permissions)
+once_open tells below limits now t path flags permissions =
     once_tested t (text_tests_then limits (descriptors.open_tests flags) path) _
     (elim (lowest_free t.descriptors (min below OPEN_FILES)) as (λ o. Once (elim o as (λ _. Outcome) [
       | None ↦ refuses t EMFILE
-      | Some fd ↦ goes_along t (not (flags.creates && flags.exclusive)) path (λ p o. descriptors.opens_object tells now t o flags fd) (λ p name. descriptors.opens_new tells limits now t p name flags mode fd)
+      | Some fd ↦ goes_along t (not (flags.creates && flags.exclusive)) path (λ p o. descriptors.opens_object tells now t o flags fd) (λ p name. descriptors.opens_new tells limits now t p name flags permissions fd)
     ])) [
       | None ↦ once_refuses t EMFILE
-      | Some fd ↦ once_along t (not (flags.creates && flags.exclusive)) path _ _ (λ p o. once_opens_object tells now t o flags fd) (λ p name. once_opens_new tells limits now t p name flags mode fd)
+      | Some fd ↦ once_along t (not (flags.creates && flags.exclusive)) path _ _ (λ p o. once_opens_object tells now t o flags fd) (λ p name. once_opens_new tells limits now t p name flags permissions fd)
     ])
 
 once_puts : (limits : Limits) (now : Option Time) (t : Tree) (n offset : ℕ) (given : List ℕ) (also : Tree → Tree) → Once (descriptors.puts limits now t n offset given also)
@@ -422,27 +450,42 @@ once_ftruncate limits now t fd size = once_described t fd _ (λ f. once_tested t
 pub once_fchmod : (now : Option Time) (t : Tree) (fd mode : ℕ) → Once (descriptors.changes_open_mode now t fd mode)
 once_fchmod now t fd mode = once_described t fd _ (λ f. once_changes _ _ _)
 
+pub once_fchown : (limits : Limits) (now : Option Time) (t : Tree) (fd : ℕ) (owner group : Option ℕ) → Once (descriptors.changes_open_owners limits now t fd owner group)
+once_fchown limits now t fd owner group =
+    once_tested t (reading.attribute_tests limits) _ (once_described t fd _ (λ f. once_owners now t f.number owner group))
+
+pub once_futimens : (limits : Limits) (now : Option Time) (t : Tree) (fd : ℕ) (time : NewTime) → Once (descriptors.changes_open_times limits now t fd time)
+once_futimens limits now t fd time =
+    once_tested t (reading.attribute_tests limits) _
+    (once_described t fd _ (λ f. once_tested t (changing.time_tests time) _ (once_time now t f.number (changing.meant_time now time))))
+
 pub once_fstat : (t : Tree) (fd : ℕ) → Once (descriptors.stats_open t fd)
 once_fstat t fd = once_described t fd _ (λ f. once_tells t (file f.number))
+
+pub once_fattr : (limits : Limits) (t : Tree) (fd : ℕ) → Once (descriptors.attributes_open limits t fd)
+once_fattr limits t fd = once_tested t (reading.attribute_tests limits) _ (once_described t fd _ (λ f. once_attributes t (file f.number)))
 
 pub once_fsync : (t : Tree) (fd : ℕ) → Once (descriptors.syncs_open t fd)
 once_fsync t fd = once_described t fd _ (λ f. once_answers t _)
 
-pub once_path : (limits : Limits) (now : Option Time) (t : Tree) (c : PathCall) → Once (calls limits now t c)
-once_path limits now t (call.List path) = once_list limits t path
-once_path limits now t (call.Entries path after count) = once_entries limits t path after count
-once_path limits now t (call.Stat path) = once_stat limits t true path
-once_path limits now t (call.Lstat path) = once_stat limits t false path
-once_path limits now t (call.Readlink path) = once_readlink limits t path
-once_path limits now t (call.Get path offset count) = once_get limits t path offset count
-once_path limits now t (call.Mkdir path mode) = once_creates limits now t path (λ p n. with_directory p n mode)
-once_path limits now t (call.Rmdir path) = once_rmdir limits now t path
-once_path limits now t (call.Unlink path) = once_unlink limits now t path
-once_path limits now t (call.Link old path) = once_link limits now t old path
-once_path limits now t (call.Symlink text path) = once_symlink limits now t text path
-once_path limits now t (call.Rename old path) = once_rename limits now t false old path
-once_path limits now t (call.RenameNew old path) = once_rename limits now t true old path
-once_path limits now t (call.Chmod path mode) = once_chmod limits now t path mode
-once_path limits now t (call.Truncate path size) = once_truncate limits now t path size
-once_path limits now t (call.Store path offset given) = once_store limits now t path offset given
-once_path limits now t (call.Set path settings) = once_set limits now t path settings
+pub once_path : (limits : Limits) (said : Session) (t : Tree) (c : PathCall) → Once (calls limits said t c)
+once_path limits said t (call.List path) = once_list limits t path
+once_path limits said t (call.Entries path after count) = once_entries limits t path after count
+once_path limits said t (call.Stat path) = once_stat limits t true path
+once_path limits said t (call.Lstat path) = once_stat limits t false path
+once_path limits said t (call.Attr path follow) = once_attr limits t follow path
+once_path limits said t (call.Readlink path) = once_readlink limits t path
+once_path limits said t (call.Get path offset count) = once_get limits t path offset count
+once_path limits said t (call.Mkdir path mode) = once_creates limits (call_time limits said) t path (λ p n. with_directory p n (new_permissions limits said mode))
+once_path limits said t (call.Rmdir path) = once_rmdir limits (call_time limits said) t path
+once_path limits said t (call.Unlink path) = once_unlink limits (call_time limits said) t path
+once_path limits said t (call.Link old path) = once_link limits (call_time limits said) t old path
+once_path limits said t (call.Symlink text path) = once_symlink limits (call_time limits said) t text path (new_permissions limits said LINK_MODE)
+once_path limits said t (call.Rename old path) = once_rename limits (call_time limits said) t false old path
+once_path limits said t (call.RenameNew old path) = once_rename limits (call_time limits said) t true old path
+once_path limits said t (call.Chmod path mode) = once_chmod limits (call_time limits said) t path mode
+once_path limits said t (call.Chown path follow owner group) = once_chown limits (call_time limits said) t follow path owner group
+once_path limits said t (call.Utimens path follow time) = once_utimens limits (call_time limits said) t follow path time
+once_path limits said t (call.Truncate path size) = once_truncate limits (call_time limits said) t path size
+once_path limits said t (call.Store path offset given) = once_store limits (call_time limits said) t path offset given
+once_path limits said t (call.Set path settings) = once_set limits (call_time limits said) t path settings

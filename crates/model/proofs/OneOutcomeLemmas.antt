@@ -12,12 +12,13 @@ use Rattle.model.specs.Trees.{Tree, IsUsed}
 use Rattle.model.specs.Room.{Room, Need, nothing, a_snapshot, a_restore}
 use Rattle.model.specs.Outcomes.{Outcome}
 use Rattle.model.specs.Reading as reading
+use Rattle.model.specs.Reading.{attribute_tests}
 use Rattle.model.specs.Descriptors as descriptors
-use Rattle.model.specs.States.{State, now_of, with_tree, with_snapshots, ForgetsOpenFiles}
-use Rattle.model.specs.Steps.{Step, says, passing, on_tree, calls, is_reading_call, frozen, take_tests, takes, deletes, has_open_below, restores, tells_usage, usage_of, views, at_tests, sets_time}
+use Rattle.model.specs.States.{State, now_of, permissions_in, with_tree, with_snapshots, ForgetsOpenFiles}
+use Rattle.model.specs.Steps.{Step, says, passing, on_tree, calls, is_reading_call, frozen, take_tests, takes, deletes, has_open_below, restores, tells_usage, usage_of, views, at_tests, sets_time, sets_owner}
 use Rattle.model.specs.Laws.{HasOneOutcome}
 use Rattle.model.proofs.CountLemmas.{counts_once, number_apart}
-use Rattle.model.proofs.OnceLemmas.{Once, forgets_once, once_path, once_open, once_close, once_read, once_write, once_pread, once_pwrite, once_seek, once_ftruncate, once_fchmod, once_fstat, once_fsync, once_extent}
+use Rattle.model.proofs.OnceLemmas.{Once, forgets_once, once_path, once_open, once_close, once_read, once_write, once_pread, once_pwrite, once_seek, once_ftruncate, once_fchmod, once_fchown, once_futimens, once_fattr, once_fstat, once_fsync, once_extent}
 
 -- the commands
 
@@ -72,11 +73,11 @@ once_views : (s : State) (name : Name) (c : PathCall) → OnceStep (views s name
 once_views s name c =
     elim (frozen s name) as (λ o. OnceStep (elim o as (λ _. Step) [
       | None ↦ says s (reply.Refused NOSNAP)
-      | Some pair ↦ passing s ((not (is_reading_call c), EROFS) ∷ []) (λ answer new need. calls s.limits (now_of s) pair.1 c answer pair.1 need × (new ≡ s))
+      | Some pair ↦ passing s ((not (is_reading_call c), EROFS) ∷ []) (λ answer new need. calls s.limits s.session pair.1 c answer pair.1 need × (new ≡ s))
     ])) [
       | None ↦ once_says s (reply.Refused NOSNAP)
-      | Some pair ↦ once_passing s ((not (is_reading_call c), EROFS) ∷ []) (λ answer new need. calls s.limits (now_of s) pair.1 c answer pair.1 need × (new ≡ s)) (λ a b t u m n one other.
-          let same = once_path s.limits (now_of s) pair.1 c a b pair.1 pair.1 m n one.0 other.0 in
+      | Some pair ↦ once_passing s ((not (is_reading_call c), EROFS) ∷ []) (λ answer new need. calls s.limits s.session pair.1 c answer pair.1 need × (new ≡ s)) (λ a b t u m n one other.
+          let same = once_path s.limits s.session pair.1 c a b pair.1 pair.1 m n one.0 other.0 in
           (same.reply, one.1 ∙ sym other.1, same.need))
     ]
 
@@ -84,17 +85,21 @@ once_time : (s : State) (seconds : ℤ) (nanoseconds : ℕ) → OnceStep (sets_t
 once_time s seconds nanoseconds =
     once_passing s (at_tests s nanoseconds) _ (λ a b t u m n one other. (one.0 ∙ sym other.0, one.1 ∙ sym other.1, one.2 ∙ sym other.2))
 
+once_owner : (s : State) (owner group : ℕ) → OnceStep (sets_owner s owner group)
+once_owner s owner group =
+    once_passing s (attribute_tests s.limits) _ (λ a b t u m n one other. (one.0 ∙ sym other.0, one.1 ∙ sym other.1, one.2 ∙ sym other.2))
+
 once_usage : (room : Room) (s : State) → OnceStep (tells_usage room s)
 once_usage room s a b t u m n (taken, counts, done) (others, another, again) =
     once_says s (reply.Usage (usage_of room s taken)) a b t u m n done
     (subst (λ (k : ℕ). says s (reply.Usage (usage_of room s k)) b u n) (counts_once (IsUsed s.tree) number_apart others taken another counts) again)
 
 pub has_one_outcome : HasOneOutcome
-has_one_outcome room s (command.Path c) = once_on_tree s (calls s.limits (now_of s) s.tree c) (once_path s.limits (now_of s) s.tree c)
+has_one_outcome room s (command.Path c) = once_on_tree s (calls s.limits s.session s.tree c) (once_path s.limits s.session s.tree c)
 has_one_outcome room s (command.Open path flags mode below) =
-    once_on_tree s (descriptors.opens false below s.limits (now_of s) s.tree path flags mode) (once_open false below s.limits (now_of s) s.tree path flags mode)
+    once_on_tree s (descriptors.opens false below s.limits (now_of s) s.tree path flags (permissions_in s mode)) (once_open false below s.limits (now_of s) s.tree path flags (permissions_in s mode))
 has_one_outcome room s (command.OpenStat path flags mode below) =
-    once_on_tree s (descriptors.opens true below s.limits (now_of s) s.tree path flags mode) (once_open true below s.limits (now_of s) s.tree path flags mode)
+    once_on_tree s (descriptors.opens true below s.limits (now_of s) s.tree path flags (permissions_in s mode)) (once_open true below s.limits (now_of s) s.tree path flags (permissions_in s mode))
 has_one_outcome room s (command.Close fd) = once_on_tree s (descriptors.closes s.tree fd) (once_close s.tree fd)
 has_one_outcome room s (command.Read fd count) = once_on_tree s (descriptors.reads s.tree fd count) (once_read s.tree fd count)
 has_one_outcome room s (command.Write fd given) = once_on_tree s (descriptors.writes s.limits (now_of s) s.tree fd given) (once_write s.limits (now_of s) s.tree fd given)
@@ -103,10 +108,14 @@ has_one_outcome room s (command.Pwrite fd offset given) = once_on_tree s (descri
 has_one_outcome room s (command.Lseek fd from offset) = once_on_tree s (descriptors.seeks s.tree fd from offset) (once_seek s.tree fd from offset)
 has_one_outcome room s (command.Ftruncate fd size) = once_on_tree s (descriptors.truncates_open s.limits (now_of s) s.tree fd size) (once_ftruncate s.limits (now_of s) s.tree fd size)
 has_one_outcome room s (command.Fchmod fd mode) = once_on_tree s (descriptors.changes_open_mode (now_of s) s.tree fd mode) (once_fchmod (now_of s) s.tree fd mode)
+has_one_outcome room s (command.Fchown fd owner group) = once_on_tree s (descriptors.changes_open_owners s.limits (now_of s) s.tree fd owner group) (once_fchown s.limits (now_of s) s.tree fd owner group)
+has_one_outcome room s (command.Futimens fd time) = once_on_tree s (descriptors.changes_open_times s.limits (now_of s) s.tree fd time) (once_futimens s.limits (now_of s) s.tree fd time)
 has_one_outcome room s (command.Fstat fd) = once_on_tree s (descriptors.stats_open s.tree fd) (once_fstat s.tree fd)
+has_one_outcome room s (command.Fattr fd) = once_on_tree s (descriptors.attributes_open s.limits s.tree fd) (once_fattr s.limits s.tree fd)
 has_one_outcome room s (command.Fsync fd) = once_on_tree s (descriptors.syncs_open s.tree fd) (once_fsync s.tree fd)
 has_one_outcome room s (command.Extent path offset) = once_on_tree s (reading.tells_extent s.limits s.tree room.stored path offset) (once_extent s.limits s.tree room.stored path offset)
 has_one_outcome room s (command.At seconds nanoseconds) = once_time s seconds nanoseconds
+has_one_outcome room s (command.As owner group) = once_owner s owner group
 has_one_outcome room s command.Sync = once_says s _
 has_one_outcome room s command.Df = once_says s _
 has_one_outcome room s command.Statfs = once_usage room s

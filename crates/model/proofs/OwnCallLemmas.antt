@@ -2,8 +2,10 @@
 use Rattle.std.proofs.Common.{◌≡◌, ℕ, ℤ, List, [], ◌∷◌, ◌++◌, Bool, true, false, not, ◌&&◌, ◌||◌, is_none, Option, Some, None, refl, sym, ap, ◌∙◌}
 use Rattle.std.specs.Prelude.{if◌then◌else◌, nat_abs, nat_lt, min, length, ◌+◌, ◌==◌}
 use Rattle.model.specs.declared.limits.Limits.{Limits}
+use Rattle.model.specs.declared.attributes.Permissions.{Permissions}
+use Rattle.model.specs.declared.session.Session.{Session}
 use Rattle.model.specs.declared.time.Time.{Time}
-use Rattle.model.specs.declared.limits.TheConstants.{ENTRIES_TOLD, OPEN_FILES}
+use Rattle.model.specs.declared.limits.TheConstants.{ENTRIES_TOLD, LINK_MODE, OPEN_FILES}
 use Rattle.model.specs.declared.errno.Errno.{Errno}
 use Rattle.model.specs.declared.errno.Errno.TheVariants.{ENOENT, ENOTDIR, EISDIR, EEXIST, EINVAL, EPERM, EBUSY, EBADF, EMFILE, ENOTEMPTY, EFBIG, EOVERFLOW, EMLINK, EROFS, NOSNAP}
 use Rattle.model.specs.declared.reply.Reply.{Reply}
@@ -11,12 +13,14 @@ use Rattle.model.specs.declared.reply.Reply.TheVariants as reply
 use Rattle.model.specs.declared.command.Command.{Command}
 use Rattle.model.specs.declared.command.Command.TheVariants as command
 use Rattle.model.specs.declared.command.Flags.{Flags}
+use Rattle.model.specs.declared.command.NewTime.{NewTime}
+use Rattle.model.specs.declared.command.NewTime.TheVariants.{Omit, Now, At}
 use Rattle.model.specs.declared.command.Settings.{Settings}
 use Rattle.model.specs.declared.command.Whence.{Whence}
 use Rattle.model.specs.declared.command.PathCall.{PathCall}
 use Rattle.model.specs.declared.command.PathCall.TheVariants as call
 use Rattle.model.specs.Paths.{Name, Path, is_empty, is_root_text, Tests, first_refusal, text_tests_then, text_tests, new_text_tests}
-use Rattle.model.specs.Trees.{Tree, Object, directory, symlink, file}
+use Rattle.model.specs.Trees.{Tree, Object, directory, symlink, file, number_of_object}
 use Rattle.model.specs.Edits.{contents, with_directory, with_symlink}
 use Rattle.model.specs.Room.{Room, Need, nothing}
 use Rattle.model.specs.Outcomes.{Outcome, refuses, goes_along, lowest_free}
@@ -25,7 +29,8 @@ use Rattle.model.specs.Entries.{with_part}
 use Rattle.model.specs.Reading as reading
 use Rattle.model.specs.Changing as changing
 use Rattle.model.specs.Descriptors as descriptors
-use Rattle.model.specs.States.{State, now_of, with_tree}
+use Rattle.model.specs.Sessions.{call_time, new_permissions}
+use Rattle.model.specs.States.{State, now_of, permissions_in, with_tree}
 use Rattle.model.specs.Steps.{Step, says, passing, on_tree, calls, is_reading_call, frozen, take_tests, has_open_below, views, at_tests, WouldStep}
 use Rattle.model.specs.Laws.{is_own, RefusesByItsOwn, RefusalsChangeNothing}
 use Rattle.model.proofs.OwnLemmas.{Own, refused_same, own_refuses, IsGood, good_own, own_answers, own_changes, own_swept, TestsOwn, RefusesOwn, first_own, own_tested, own_test, own_two, own_three, own_either, own_along, own_to, own_names, own_place, own_fresh, own_links, never, own_described, by_kind, tests_append, text_own, plain_own, new_own}
@@ -37,6 +42,13 @@ own_tells t o = own_links t o _ (λ links. own_answers t _ tt)
 
 own_stat : (limits : Limits) (t : Tree) (follow : Bool) (path : List ℕ) → Own t (reading.stats limits t follow path)
 own_stat limits t follow path = own_tested t (text_tests limits path) _ (plain_own limits path) (own_to t follow path _ (λ p o. own_tells t o))
+
+own_attributes : (t : Tree) (o : Object) → Own t (reading.tells_attributes t o)
+own_attributes t o = own_links t o _ (λ links. own_answers t _ tt)
+
+own_attr : (limits : Limits) (t : Tree) (follow : Bool) (path : List ℕ) → Own t (reading.attributes limits t follow path)
+own_attr limits t follow path =
+    own_tested t (reading.attribute_tests limits ++ text_tests limits path) _ (refl, plain_own limits path) (own_to t follow path _ (λ p o. own_attributes t o))
 
 own_list : (limits : Limits) (t : Tree) (path : List ℕ) → Own t (reading.lists limits t path)
 own_list limits t path =
@@ -70,9 +82,9 @@ own_creates limits now t path make =
     own_tested t (new_text_tests limits path) _ (new_own limits path)
     (own_along t false path _ _ (λ p o. own_refuses t EEXIST refl) (λ p name. own_place limits t p _ (own_fresh limits t _ (λ n. own_changes _ _ _ _ tt))))
 
-own_symlink : (limits : Limits) (now : Option Time) (t : Tree) (text path : List ℕ) → Own t (changing.makes_symlink limits now t text path)
-own_symlink limits now t text path =
-    own_tested t (changing.link_text_tests limits text) _ (refl, (refl, (refl, tt))) (own_creates limits now t path (λ p n. with_symlink p n text))
+own_symlink : (limits : Limits) (now : Option Time) (t : Tree) (text path : List ℕ) (permissions : Permissions) → Own t (changing.makes_symlink limits now t text path permissions)
+own_symlink limits now t text path permissions =
+    own_tested t (changing.link_text_tests limits text) _ (refl, (refl, (refl, tt))) (own_creates limits now t path (λ p n. with_symlink p n permissions text))
 
 own_removes : (now : Option Time) (t : Tree) (p : Path) → Own t (changing.removes now t p)
 own_removes now t p = own_swept _ _ _ _ tt
@@ -114,6 +126,29 @@ own_chmod limits now t path mode =
     own_tested t (text_tests limits path) _ (plain_own limits path)
     (own_to t true path _ (λ p o. by_kind t o _ _ _ (λ n. own_changes _ _ _ _ tt) (λ n text. never t) (λ n. own_changes _ _ _ _ tt)))
 
+own_owners : (now : Option Time) (t : Tree) (n : ℕ) (owner group : Option ℕ) → Own t (changing.gives_owners now t n owner group)
+own_owners now t n owner group = own_either t _ _ _ (own_answers t _ tt) (own_changes _ _ _ _ tt)
+
+own_time : (now : Option Time) (t : Tree) (n : ℕ) (time : Option Time) → Own t (changing.gives_time now t n time)
+own_time now t n None = own_answers t _ tt
+own_time now t n (Some time) = own_changes _ _ _ _ tt
+
+own_times : (time : NewTime) → TestsOwn (changing.time_tests time)
+own_times Omit = tt
+own_times Now = tt
+own_times (At seconds nanoseconds) = (refl, tt)
+
+own_chown : (limits : Limits) (now : Option Time) (t : Tree) (follow : Bool) (path : List ℕ) (owner group : Option ℕ) → Own t (changing.changes_owners limits now t follow path owner group)
+own_chown limits now t follow path owner group =
+    own_tested t (reading.attribute_tests limits ++ text_tests limits path) _ (refl, plain_own limits path)
+    (own_to t follow path _ (λ p o. own_owners now t (number_of_object o) owner group))
+
+own_utimens : (limits : Limits) (now : Option Time) (t : Tree) (follow : Bool) (path : List ℕ) (time : NewTime) → Own t (changing.changes_times limits now t follow path time)
+own_utimens limits now t follow path time =
+    own_tested t (reading.attribute_tests limits ++ text_tests limits path ++ changing.time_tests time) _
+    (refl, tests_append (text_tests limits path) (changing.time_tests time) (plain_own limits path) (own_times time))
+    (own_to t follow path _ (λ p o. own_time now t (number_of_object o) (changing.meant_time now time)))
+
 own_truncate : (limits : Limits) (now : Option Time) (t : Tree) (path : List ℕ) (size : ℤ) → Own t (changing.truncates limits now t path size)
 own_truncate limits now t path size =
     own_tested t (text_tests_then limits (changing.size_tests limits size) path) _ (text_own limits (changing.size_tests limits size) path (refl, (refl, tt)))
@@ -145,19 +180,19 @@ own_opens_object : (tells : Bool) (now : Option Time) (t : Tree) (o : Object) (f
 own_opens_object tells now t o flags fd =
     own_test t _ EEXIST _ refl (by_kind t o _ _ _ (λ n. own_refuses t EISDIR refl) (λ n text. never t) (λ n. own_either t _ _ _ (own_opens_file t tells n flags fd _ _) (own_opens_file t tells n flags fd _ _)))
 
-own_opens_new : (tells : Bool) (limits : Limits) (now : Option Time) (t : Tree) (p : Path) (name : Name) (flags : Flags) (mode fd : ℕ) → Own t (descriptors.opens_new tells limits now t p name flags mode fd)
-own_opens_new tells limits now t p name flags mode fd =
+own_opens_new : (tells : Bool) (limits : Limits) (now : Option Time) (t : Tree) (p : Path) (name : Name) (flags : Flags) (permissions : Permissions) (fd : ℕ) → Own t (descriptors.opens_new tells limits now t p name flags permissions fd)
+own_opens_new tells limits now t p name flags permissions fd =
     own_test t _ ENOENT _ refl (own_place limits t p _ (own_fresh limits t _ (λ n. own_opens_file t tells n flags fd _ _)))
 
-own_open : (tells : Bool) (below : ℕ) (limits : Limits) (now : Option Time) (t : Tree) (path : List ℕ) (flags : Flags) (mode : ℕ) → Own t (descriptors.opens tells below limits now t path flags mode)
-own_open tells below limits now t path flags mode =
+own_open : (tells : Bool) (below : ℕ) (limits : Limits) (now : Option Time) (t : Tree) (path : List ℕ) (flags : Flags) (permissions : Permissions) → Own t (descriptors.opens tells below limits now t path flags permissions)
+own_open tells below limits now t path flags permissions =
     own_tested t (text_tests_then limits (descriptors.open_tests flags) path) _ (text_own limits (descriptors.open_tests flags) path (refl, (refl, tt)))
     (elim (lowest_free t.descriptors (min below OPEN_FILES)) as (λ o. Own t (elim o as (λ _. Outcome) [
       | None ↦ refuses t EMFILE
-      | Some fd ↦ goes_along t (not (flags.creates && flags.exclusive)) path (λ p o. descriptors.opens_object tells now t o flags fd) (λ p name. descriptors.opens_new tells limits now t p name flags mode fd)
+      | Some fd ↦ goes_along t (not (flags.creates && flags.exclusive)) path (λ p o. descriptors.opens_object tells now t o flags fd) (λ p name. descriptors.opens_new tells limits now t p name flags permissions fd)
     ])) [
       | None ↦ own_refuses t EMFILE refl
-      | Some fd ↦ own_along t (not (flags.creates && flags.exclusive)) path _ _ (λ p o. own_opens_object tells now t o flags fd) (λ p name. own_opens_new tells limits now t p name flags mode fd)
+      | Some fd ↦ own_along t (not (flags.creates && flags.exclusive)) path _ _ (λ p o. own_opens_object tells now t o flags fd) (λ p name. own_opens_new tells limits now t p name flags permissions fd)
     ])
 
 own_puts : (limits : Limits) (now : Option Time) (t : Tree) (n offset : ℕ) (given : List ℕ) (also : Tree → Tree) → Own t (descriptors.puts limits now t n offset given also)
@@ -194,6 +229,18 @@ own_ftruncate limits now t fd size = own_described t fd _ (λ f. own_three t (no
 own_fchmod : (now : Option Time) (t : Tree) (fd mode : ℕ) → Own t (descriptors.changes_open_mode now t fd mode)
 own_fchmod now t fd mode = own_described t fd _ (λ f. own_changes _ _ _ _ tt)
 
+own_fchown : (limits : Limits) (now : Option Time) (t : Tree) (fd : ℕ) (owner group : Option ℕ) → Own t (descriptors.changes_open_owners limits now t fd owner group)
+own_fchown limits now t fd owner group =
+    own_tested t (reading.attribute_tests limits) _ (refl, tt) (own_described t fd _ (λ f. own_owners now t f.number owner group))
+
+own_futimens : (limits : Limits) (now : Option Time) (t : Tree) (fd : ℕ) (time : NewTime) → Own t (descriptors.changes_open_times limits now t fd time)
+own_futimens limits now t fd time =
+    own_tested t (reading.attribute_tests limits) _ (refl, tt)
+    (own_described t fd _ (λ f. own_tested t (changing.time_tests time) _ (own_times time) (own_time now t f.number (changing.meant_time now time))))
+
+own_fattr : (limits : Limits) (t : Tree) (fd : ℕ) → Own t (descriptors.attributes_open limits t fd)
+own_fattr limits t fd = own_tested t (reading.attribute_tests limits) _ (refl, tt) (own_described t fd _ (λ f. own_attributes t (file f.number)))
+
 own_fstat : (t : Tree) (fd : ℕ) → Own t (descriptors.stats_open t fd)
 own_fstat t fd = own_described t fd _ (λ f. own_tells t (file f.number))
 
@@ -211,24 +258,27 @@ own_extent limits t stored path offset =
     own_tested t (text_tests_then limits ((reading.is_negative offset, EINVAL) ∷ []) path) _ (text_own limits ((reading.is_negative offset, EINVAL) ∷ []) path (refl, tt))
     (own_to t true path _ (λ p o. by_kind t o _ _ _ (λ n. own_refuses t EISDIR refl) (λ n text. never t) (λ n answer new need (extent, tells, done). own_answers t (reply.Extent extent) tt answer new need done)))
 
-own_path : (limits : Limits) (now : Option Time) (t : Tree) (c : PathCall) → Own t (calls limits now t c)
-own_path limits now t (call.List path) = own_list limits t path
-own_path limits now t (call.Entries path after count) = own_entries limits t path after count
-own_path limits now t (call.Stat path) = own_stat limits t true path
-own_path limits now t (call.Lstat path) = own_stat limits t false path
-own_path limits now t (call.Readlink path) = own_readlink limits t path
-own_path limits now t (call.Get path offset count) = own_get limits t path offset count
-own_path limits now t (call.Mkdir path mode) = own_creates limits now t path (λ p n. with_directory p n mode)
-own_path limits now t (call.Rmdir path) = own_rmdir limits now t path
-own_path limits now t (call.Unlink path) = own_unlink limits now t path
-own_path limits now t (call.Link old path) = own_link limits now t old path
-own_path limits now t (call.Symlink text path) = own_symlink limits now t text path
-own_path limits now t (call.Rename old path) = own_rename limits now t false old path
-own_path limits now t (call.RenameNew old path) = own_rename limits now t true old path
-own_path limits now t (call.Chmod path mode) = own_chmod limits now t path mode
-own_path limits now t (call.Truncate path size) = own_truncate limits now t path size
-own_path limits now t (call.Store path offset given) = own_store limits now t path offset given
-own_path limits now t (call.Set path settings) = own_set limits now t path settings
+own_path : (limits : Limits) (said : Session) (t : Tree) (c : PathCall) → Own t (calls limits said t c)
+own_path limits said t (call.List path) = own_list limits t path
+own_path limits said t (call.Entries path after count) = own_entries limits t path after count
+own_path limits said t (call.Stat path) = own_stat limits t true path
+own_path limits said t (call.Lstat path) = own_stat limits t false path
+own_path limits said t (call.Attr path follow) = own_attr limits t follow path
+own_path limits said t (call.Readlink path) = own_readlink limits t path
+own_path limits said t (call.Get path offset count) = own_get limits t path offset count
+own_path limits said t (call.Mkdir path mode) = own_creates limits (call_time limits said) t path (λ p n. with_directory p n (new_permissions limits said mode))
+own_path limits said t (call.Rmdir path) = own_rmdir limits (call_time limits said) t path
+own_path limits said t (call.Unlink path) = own_unlink limits (call_time limits said) t path
+own_path limits said t (call.Link old path) = own_link limits (call_time limits said) t old path
+own_path limits said t (call.Symlink text path) = own_symlink limits (call_time limits said) t text path (new_permissions limits said LINK_MODE)
+own_path limits said t (call.Rename old path) = own_rename limits (call_time limits said) t false old path
+own_path limits said t (call.RenameNew old path) = own_rename limits (call_time limits said) t true old path
+own_path limits said t (call.Chmod path mode) = own_chmod limits (call_time limits said) t path mode
+own_path limits said t (call.Chown path follow owner group) = own_chown limits (call_time limits said) t follow path owner group
+own_path limits said t (call.Utimens path follow time) = own_utimens limits (call_time limits said) t follow path time
+own_path limits said t (call.Truncate path size) = own_truncate limits (call_time limits said) t path size
+own_path limits said t (call.Store path offset given) = own_store limits (call_time limits said) t path offset given
+own_path limits said t (call.Set path settings) = own_set limits (call_time limits said) t path settings
 
 -- the commands
 
@@ -259,18 +309,18 @@ own_views : (s : State) (name : Name) (c : PathCall) → OwnStep s (views s name
 own_views s name c =
     elim (frozen s name) as (λ o. OwnStep s (elim o as (λ _. Step) [
       | None ↦ says s (reply.Refused NOSNAP)
-      | Some pair ↦ passing s ((not (is_reading_call c), EROFS) ∷ []) (λ answer new need. calls s.limits (now_of s) pair.1 c answer pair.1 need × (new ≡ s))
+      | Some pair ↦ passing s ((not (is_reading_call c), EROFS) ∷ []) (λ answer new need. calls s.limits s.session pair.1 c answer pair.1 need × (new ≡ s))
     ])) [
       | None ↦ own_refusal s NOSNAP refl
-      | Some pair ↦ own_passing s ((not (is_reading_call c), EROFS) ∷ []) _ (refl, tt) (λ answer new need done errno is. let refusal = own_path s.limits (now_of s) pair.1 c answer pair.1 need done.0 errno is in (refusal.0, done.1, refusal.2))
+      | Some pair ↦ own_passing s ((not (is_reading_call c), EROFS) ∷ []) _ (refl, tt) (λ answer new need done errno is. let refusal = own_path s.limits s.session pair.1 c answer pair.1 need done.0 errno is in (refusal.0, done.1, refusal.2))
     ]
 
 own_step : (room : Room) (s : State) (c : Command) → OwnStep s (WouldStep room s c)
-own_step room s (command.Path c) = own_on_tree s (calls s.limits (now_of s) s.tree c) (own_path s.limits (now_of s) s.tree c)
+own_step room s (command.Path c) = own_on_tree s (calls s.limits s.session s.tree c) (own_path s.limits s.session s.tree c)
 own_step room s (command.Open path flags mode below) =
-    own_on_tree s (descriptors.opens false below s.limits (now_of s) s.tree path flags mode) (own_open false below s.limits (now_of s) s.tree path flags mode)
+    own_on_tree s (descriptors.opens false below s.limits (now_of s) s.tree path flags (permissions_in s mode)) (own_open false below s.limits (now_of s) s.tree path flags (permissions_in s mode))
 own_step room s (command.OpenStat path flags mode below) =
-    own_on_tree s (descriptors.opens true below s.limits (now_of s) s.tree path flags mode) (own_open true below s.limits (now_of s) s.tree path flags mode)
+    own_on_tree s (descriptors.opens true below s.limits (now_of s) s.tree path flags (permissions_in s mode)) (own_open true below s.limits (now_of s) s.tree path flags (permissions_in s mode))
 own_step room s (command.Close fd) = own_on_tree s (descriptors.closes s.tree fd) (own_close s.tree fd)
 own_step room s (command.Read fd count) = own_on_tree s (descriptors.reads s.tree fd count) (own_read s.tree fd count)
 own_step room s (command.Write fd given) = own_on_tree s (descriptors.writes s.limits (now_of s) s.tree fd given) (own_write s.limits (now_of s) s.tree fd given)
@@ -279,10 +329,14 @@ own_step room s (command.Pwrite fd offset given) = own_on_tree s (descriptors.wr
 own_step room s (command.Lseek fd from offset) = own_on_tree s (descriptors.seeks s.tree fd from offset) (own_seek s.tree fd from offset)
 own_step room s (command.Ftruncate fd size) = own_on_tree s (descriptors.truncates_open s.limits (now_of s) s.tree fd size) (own_ftruncate s.limits (now_of s) s.tree fd size)
 own_step room s (command.Fchmod fd mode) = own_on_tree s (descriptors.changes_open_mode (now_of s) s.tree fd mode) (own_fchmod (now_of s) s.tree fd mode)
+own_step room s (command.Fchown fd owner group) = own_on_tree s (descriptors.changes_open_owners s.limits (now_of s) s.tree fd owner group) (own_fchown s.limits (now_of s) s.tree fd owner group)
+own_step room s (command.Futimens fd time) = own_on_tree s (descriptors.changes_open_times s.limits (now_of s) s.tree fd time) (own_futimens s.limits (now_of s) s.tree fd time)
 own_step room s (command.Fstat fd) = own_on_tree s (descriptors.stats_open s.tree fd) (own_fstat s.tree fd)
+own_step room s (command.Fattr fd) = own_on_tree s (descriptors.attributes_open s.limits s.tree fd) (own_fattr s.limits s.tree fd)
 own_step room s (command.Fsync fd) = own_on_tree s (descriptors.syncs_open s.tree fd) (own_fsync s.tree fd)
 own_step room s (command.Extent path offset) = own_on_tree s (reading.tells_extent s.limits s.tree room.stored path offset) (own_extent s.limits s.tree room.stored path offset)
 own_step room s (command.At seconds nanoseconds) = own_passing s (at_tests s nanoseconds) _ (refl, (refl, tt)) (λ answer new need done errno is. good_own reply.Done tt errno (sym done.0 ∙ is))
+own_step room s (command.As owner group) = own_passing s (reading.attribute_tests s.limits) _ (refl, tt) (λ answer new need done errno is. good_own reply.Done tt errno (sym done.0 ∙ is))
 own_step room s command.Sync = own_says s _ tt
 own_step room s command.Df = own_says s _ tt
 own_step room s command.Statfs = λ answer new need done errno is. own_says s _ tt answer new need done.2 errno is

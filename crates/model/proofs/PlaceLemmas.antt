@@ -1,19 +1,19 @@
 -- A tree stays one where an object is put at a path where nothing is.
-use Rattle.std.proofs.Common.{◌≡◌, ◌≢◌, ◌⊎◌, ◌↔◌, inl, inr, ℕ, suc, ◌≤◌, ◌<◌, ◌==◌, List, [], ◌∷◌, ◌++◌, length, true, Option, Some, None, is_some, IsSome, IfSome, All, refl, sym, ap, subst, ◌∙◌, append_assoc, append-nil, arith, lit≤}
+use Rattle.std.proofs.Common.{◌≡◌, ◌≢◌, ◌⊎◌, ◌↔◌, inl, inr, ℕ, suc, ◌≤◌, ◌<◌, ◌==◌, List, [], ◌∷◌, ◌++◌, length, true, Option, Some, None, is_some, IsSome, IfSome, All, refl, sym, ap, subst, ◌∙◌, append_assoc, append-nil, arith}
 use Rattle.std.specs.Prelude.{if◌then◌else◌}
 use Rattle.std.proofs.lemmas.Bool.{cases_eq, cond_both, cond-true, cond-false, false≢true, false_from_ne_true, eq-eqb, ne_eqb}
 use Rattle.std.proofs.lemmas.List.{same_from_push}
 use Rattle.std.proofs.lemmas.List.Elements.{All-push}
 use Rattle.model.specs.declared.limits.Limits.{Limits}
 use Rattle.model.specs.declared.attributes.Attributes.{Attributes}
-use Rattle.model.specs.declared.limits.TheConstants.{ROOT_NUMBER, FIRST_NUMBER, LINK_MODE, MODE_BITS}
+use Rattle.model.specs.declared.attributes.Permissions.{Permissions}
+use Rattle.model.specs.declared.limits.TheConstants.{ROOT_NUMBER, FIRST_NUMBER}
 use Rattle.model.specs.Attributes.{FitAttributes, new_attributes}
 use Rattle.model.specs.Counting.{Counts, CountsUpTo}
 use Rattle.model.specs.Paths.{Name, Path, IsName, IsLinkText, path_eq}
 use Rattle.model.specs.Trees.{Tree, Object, directory, symlink, file, number_of_object, is_directory, StandsAtPath, IsOpen, IsUsed, IsTree}
 use Rattle.model.specs.Edits.{put_at, with_attributes, with_bytes}
 use Rattle.model.specs.Outcomes.{IsListing}
-use Rattle.model.proofs.AttributeLaws.{new_fit}
 use Rattle.model.proofs.CountLemmas.{same_count, one_more}
 use Rattle.model.proofs.ListingLemmas.{listing_counts}
 use Rattle.model.proofs.WalkLemmas.{path_eq-same, same_path, not_push}
@@ -78,59 +78,62 @@ module _ (limits : Limits) (t : Tree) (tree : IsTree limits t) (n : ℕ) (low : 
   set_other : {X : Type 0} (k : ℕ) (x : X) (f : ℕ → Option X) → k ≢ n → (if k == n then Some x else f k) ≡ f k
   set_other k x f apart = cond-false (k == n) (Some x) (f k) (ne_eqb k n apart)
 
-  -- the attributes of a new object of this mode
-  abbrev with_new : ℕ → ℕ → Option Attributes
-  with_new mode = (with_attributes n (new_attributes mode) t).attributes
+  -- the attributes of a new object of these permissions
+  abbrev with_new : Permissions → ℕ → Option Attributes
+  with_new permissions = (with_attributes n (new_attributes permissions) t).attributes
 
-  fit_with : (mode : ℕ) → mode ≤ MODE_BITS → (k : ℕ) → IfSome (with_new mode k) (FitAttributes limits.has_attributes)
-  fit_with mode few k = cond_both (k == n) (Some (new_attributes mode)) (t.attributes k) (λ o. IfSome o (FitAttributes limits.has_attributes)) (λ e. new_fit limits.has_attributes mode few) (λ e. tree.fit k)
+  abbrev CanHave : Permissions → Type 0
+  CanHave permissions = FitAttributes limits.has_attributes (new_attributes permissions)
 
-  pub directory_joins : (mode : ℕ) → mode ≤ MODE_BITS → Joins limits t (directory n) t.bytes (with_new mode)
-  directory_joins mode few = record {
+  fit_with : (permissions : Permissions) → CanHave permissions → (k : ℕ) → IfSome (with_new permissions k) (FitAttributes limits.has_attributes)
+  fit_with permissions fits k = cond_both (k == n) (Some (new_attributes permissions)) (t.attributes k) (λ o. IfSome o (FitAttributes limits.has_attributes)) (λ e. fits) (λ e. tree.fit k)
+
+  pub directory_joins : (permissions : Permissions) → CanHave permissions → Joins limits t (directory n) t.bytes (with_new permissions)
+  directory_joins permissions fits = record {
     free = λ q r at_q same. absurd (free (inl (q, r, at_q, same)));
     opened = λ open_file. absurd (free (inr open_file));
     numbers = inr (low, high);
     text = λ k text e. cc;
     links = λ k e. directory_file e;
     other_bytes = λ k apart. refl;
-    other_attributes = λ k apart. set_other k (new_attributes mode) t.attributes apart;
+    other_attributes = λ k apart. set_other k (new_attributes permissions) t.attributes apart;
     has_bytes = λ e. directory_file e;
     of_bytes = λ some. absurd (no_bytes some);
-    has_attributes = ap is_some (set_here (new_attributes mode) t.attributes);
+    has_attributes = ap is_some (set_here (new_attributes permissions) t.attributes);
     sizes = tree.sizes;
-    fit = fit_with mode few;
+    fit = fit_with permissions fits;
   }
 
-  pub file_joins : (mode : ℕ) → mode ≤ MODE_BITS → Joins limits t (file n) (with_bytes n [] t).bytes (with_new mode)
-  file_joins mode few = record {
+  pub file_joins : (permissions : Permissions) → CanHave permissions → Joins limits t (file n) (with_bytes n [] t).bytes (with_new permissions)
+  file_joins permissions fits = record {
     free = λ q r at_q same. absurd (free (inl (q, r, at_q, same)));
     opened = λ open_file. refl;
     numbers = inr (low, high);
     text = λ k text e. cc;
     links = λ k e. (0, (λ p is. free (inl (p, file k, is, ap number_of_object (sym e)))), omega (arith, tree.can_be.named));
     other_bytes = λ k apart. set_other k [] t.bytes apart;
-    other_attributes = λ k apart. set_other k (new_attributes mode) t.attributes apart;
+    other_attributes = λ k apart. set_other k (new_attributes permissions) t.attributes apart;
     has_bytes = λ e. ap is_some (set_here {X = List ℕ} [] t.bytes);
     of_bytes = λ some. refl;
-    has_attributes = ap is_some (set_here (new_attributes mode) t.attributes);
+    has_attributes = ap is_some (set_here (new_attributes permissions) t.attributes);
     sizes = λ k. cond_both (k == n) (Some []) (t.bytes k) (λ o. IfSome o (λ bytes. length bytes ≤ limits.file_bytes)) (λ e. omega arith) (λ e. tree.sizes k);
-    fit = fit_with mode few;
+    fit = fit_with permissions fits;
   }
 
-  pub symlink_joins : (text : List ℕ) → IsLinkText limits.path_bytes text → Joins limits t (symlink n text) t.bytes (with_new LINK_MODE)
-  symlink_joins text good = record {
+  pub symlink_joins : (permissions : Permissions) → CanHave permissions → (text : List ℕ) → IsLinkText limits.path_bytes text → Joins limits t (symlink n text) t.bytes (with_new permissions)
+  symlink_joins permissions fits text good = record {
     free = λ q r at_q same. absurd (free (inl (q, r, at_q, same)));
     opened = λ open_file. absurd (free (inr open_file));
     numbers = inr (low, high);
     text = λ k other e. subst (IsLinkText limits.path_bytes) (text_same e) good;
     links = λ k e. symlink_file e;
     other_bytes = λ k apart. refl;
-    other_attributes = λ k apart. set_other k (new_attributes LINK_MODE) t.attributes apart;
+    other_attributes = λ k apart. set_other k (new_attributes permissions) t.attributes apart;
     has_bytes = λ e. symlink_file e;
     of_bytes = λ some. absurd (no_bytes some);
-    has_attributes = ap is_some (set_here (new_attributes LINK_MODE) t.attributes);
+    has_attributes = ap is_some (set_here (new_attributes permissions) t.attributes);
     sizes = tree.sizes;
-    fit = fit_with LINK_MODE (lit≤ tt);
+    fit = fit_with permissions fits;
   }
 
 -- one more path of a file

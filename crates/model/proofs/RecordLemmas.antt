@@ -1,12 +1,12 @@
 -- What a record does to a volume is what it says of the tree.
-use Rattle.std.proofs.Common.{◌≡◌, ◌≢◌, ◌⊎◌, inl, inr, ℕ, zero, suc, ◌+◌, ◌≤◌, ◌<◌, ◌==◌, arith, List, [], ◌∷◌, ◌++◌, Bool, true, false, ◌||◌, Option, Some, None, is_some, refl, sym, ap, subst, ◌∙◌}
+use Rattle.std.proofs.Common.{◌≡◌, ◌≢◌, ◌⊎◌, inl, inr, ℕ, zero, suc, ◌+◌, ◌≤◌, ◌<◌, ◌==◌, arith, List, [], ◌∷◌, ◌++◌, Bool, true, false, Option, Some, None, is_some, refl, sym, ap, subst, ◌∙◌}
 use Rattle.std.specs.Prelude.{if◌then◌else◌, unwrap_or}
 use Rattle.std.proofs.Math.Path.{fun_ext}
 use Rattle.std.proofs.lemmas.Bool.{cases_eq, cases_lt, cond_both, eqb-true, false≢true}
 use Rattle.model.specs.declared.limits.Limits.{Limits}
 use Rattle.model.specs.declared.attributes.Attributes.{Attributes}
 use Rattle.model.specs.declared.limits.TheConstants.{OPEN_FILES}
-use Rattle.model.specs.Attributes.{no_attributes, set_mode}
+use Rattle.model.specs.Attributes.{no_attributes, set_given, set_mode}
 use Rattle.model.specs.Paths.{Name, Path}
 use Rattle.model.specs.declared.attributes.Touch.TheVariants.{Data, Status}
 use Rattle.model.specs.declared.time.Time.{Time}
@@ -15,7 +15,7 @@ use Rattle.model.specs.Trees as trees
 use Rattle.model.specs.Trees.{Tree, Description}
 use Rattle.model.specs.Edits.{changing_attributes, contents, resized, written, put_at, without_object, with_mode, with_bytes, marked, moved, IsSwept}
 use Rattle.model.specs.Volumes.{Node, directory_node, file_node, link_node, Volume, names_in, entries, number_at, object_of, object_at, attributes_of, bytes_of_node, tree_of, with_node, set_name, with_entry, is_file_node, is_directory_node, is_orphan, IsGraph, IsVolume, with_name_more, released, created, linked, unnamed, is_open, swept_node, swept, IsMounted}
-use Rattle.model.specs.Records.{Made, file, directory, symbolic_link, Edit, create, link, remove_name, rename, write, truncate, change_mode, set_file, node_of, with_file_bytes, with_node_attributes, with_size, with_bits, edited, touches_of, applied, CanCreate, CanLink, CanEdit}
+use Rattle.model.specs.Records.{Made, file, directory, symbolic_link, Edit, create, link, remove_name, rename, write, truncate, change_attributes, set_file, node_of, with_file_bytes, with_node_attributes, with_size, with_bits, edited, touches_of, applied, CanCreate, CanLink, CanEdit}
 use Rattle.model.specs.Changes.{IsAt, with_made, ChangesBy, ChangesTree, TakesFree}
 use Rattle.model.specs.Laws.{RecordsChangeTrees, VolumesAreTrees}
 use Rattle.model.proofs.VolumeLemmas.{enters_directory}
@@ -26,7 +26,7 @@ use Rattle.model.proofs.SweepLemmas.{swept_from, stays_open, found_open}
 use Rattle.model.proofs.RenameLemmas.{renamed_swept}
 use Rattle.model.proofs.OnceLemmas.{trees_same}
 use Rattle.model.proofs.AddLemmas.{more_kept, vacant_unnamed}
-use Rattle.model.proofs.MoveLemmas.{edits_keep_volumes, path_to, from_path, to_path, is_move, made_bare, bytes_names, bytes_by, attributes_names, attributes_file}
+use Rattle.model.proofs.MoveLemmas.{edits_keep_volumes, path_to, from_path, to_path, is_move, made_bare, bytes_names, bytes_by, attributes_names, attributes_file, takes_there}
 use Rattle.model.proofs.MarkLemmas.{attributes_bytes, attributes_object, attributes_orphan, is_swept-marked, marked_file, number_by_name, swept_tree-marked}
 use Rattle.model.proofs.MountedLemmas.{tree_of_is_tree, node_file}
 use Rattle.model.proofs.ObjectLaws.{directory_object, node_other}
@@ -88,9 +88,9 @@ more_named (Some (file_node attributes links bytes)) = named (links + 1) (omega 
 more_named (Some (link_node attributes text)) = refl
 
 made_named : (made : Made) → is_orphan (Some (node_of made)) ≡ false
-made_named (file mode) = refl
-made_named (directory mode) = refl
-made_named (symbolic_link text) = refl
+made_named (file permissions) = refl
+made_named (directory permissions) = refl
+made_named (symbolic_link permissions text) = refl
 
 bytes_orphan : (f : List ℕ → List ℕ) (o : Option Node) → is_orphan (with_file_bytes f o) ≡ is_orphan o
 bytes_orphan f None = refl
@@ -197,10 +197,10 @@ module _ (limits : Limits) (v : Volume) (volume : IsVolume limits v) (table : �
         (fun_ext (λ k. by_node n (with_node_attributes f (v n)) (attributes_names f (v n)) (attributes_object f (v n)) (attributes_orphan f (v n)) bytes_of_node (attributes_bytes f (v n)) k))
         (fun_ext (λ k. chosen attributes_of (k == n) (with_node_attributes f (v n)) (v k) ∙ ap (λ b. if k == n then b else before.attributes k) (attributes_here f (v n) is))) refl
 
--- what is a file or a directory is there
-either_there : (o : Option Node) → (is_file_node o || is_directory_node o) ≡ true → is_some o ≡ true
-either_there None is = is
-either_there (Some o) is = refl
+-- a file is there
+file_there : (o : Option Node) → is_file_node o ≡ true → is_some o ≡ true
+file_there None is = is
+file_there (Some o) is = refl
 
 -- a size changes, and then a mode
 module _ (limits : Limits) (v : Volume) (volume : IsVolume limits v) (table : ℕ → Option Description) (mounted : IsMounted v table) (n mode size : ℕ) (can : CanEdit limits v (set_file n mode size)) where
@@ -221,7 +221,7 @@ module _ (limits : Limits) (v : Volume) (volume : IsVolume limits v) (table : �
   sized_volume = edits_keep_volumes limits v (truncate n size) volume (can.0, can.2)
 
   sized_has : is_some (sized n) ≡ true
-  sized_has = either_there (sized n) (ap (λ b. b || is_directory_node (sized n)) (sized_file n can.0))
+  sized_has = file_there (sized n) (sized_file n can.0)
 
   set_tree : tree_of (swept table (with_bits n mode sized)) table
       ≡ with_mode n mode (with_bytes n (resized size (contents (tree_of v table) n)) (tree_of v table))
@@ -301,16 +301,16 @@ module _ (limits : Limits) (v : Volume) (volume : IsVolume limits v) (table : �
         ∙ ap is_file_node (node_other number n (Some (node_of made)) v (λ e. false≢true (sym (ap is_file_node free) ∙ ap (λ k. is_file_node (v k)) (sym e) ∙ is))) ∙ is
 
   makes_tree : (number parent : ℕ) (made : Made) (name : Name) (can : CanCreate limits v number parent made name) (free : v number ≡ None) → tree_of (created number parent name (node_of made) v) table ≡ with_made made (q number parent made name can free) number t
-  makes_tree number parent (file mode) name can free =
-      trees_same (tree_of (created number parent name (node_of (file mode)) v) table) (with_made (file mode) (q number parent (file mode) name can free) number t)
-      (objects number parent (file mode) name can free) (fun_ext (bytes number parent (file mode) name can free)) (fun_ext (attributes number parent (file mode) name can free)) refl
-  makes_tree number parent (directory mode) name can free =
-      trees_same (tree_of (created number parent name (node_of (directory mode)) v) table) (with_made (directory mode) (q number parent (directory mode) name can free) number t)
-      (objects number parent (directory mode) name can free) (fun_ext (λ m. bytes number parent (directory mode) name can free m ∙ as_before number parent (directory mode) name can free bytes_of_node refl refl m)) (fun_ext (attributes number parent (directory mode) name can free)) refl
-  makes_tree number parent (symbolic_link text) name can free =
-      trees_same (tree_of (created number parent name (node_of (symbolic_link text)) v) table) (with_made (symbolic_link text) (q number parent (symbolic_link text) name can free) number t)
-      (objects number parent (symbolic_link text) name can free) (fun_ext (λ m. bytes number parent (symbolic_link text) name can free m ∙ as_before number parent (symbolic_link text) name can free bytes_of_node refl refl m))
-      (fun_ext (attributes number parent (symbolic_link text) name can free)) refl
+  makes_tree number parent (file permissions) name can free =
+      trees_same (tree_of (created number parent name (node_of (file permissions)) v) table) (with_made (file permissions) (q number parent (file permissions) name can free) number t)
+      (objects number parent (file permissions) name can free) (fun_ext (bytes number parent (file permissions) name can free)) (fun_ext (attributes number parent (file permissions) name can free)) refl
+  makes_tree number parent (directory permissions) name can free =
+      trees_same (tree_of (created number parent name (node_of (directory permissions)) v) table) (with_made (directory permissions) (q number parent (directory permissions) name can free) number t)
+      (objects number parent (directory permissions) name can free) (fun_ext (λ m. bytes number parent (directory permissions) name can free m ∙ as_before number parent (directory permissions) name can free bytes_of_node refl refl m)) (fun_ext (attributes number parent (directory permissions) name can free)) refl
+  makes_tree number parent (symbolic_link permissions text) name can free =
+      trees_same (tree_of (created number parent name (node_of (symbolic_link permissions text)) v) table) (with_made (symbolic_link permissions text) (q number parent (symbolic_link permissions text) name can free) number t)
+      (objects number parent (symbolic_link permissions text) name can free) (fun_ext (λ m. bytes number parent (symbolic_link permissions text) name can free m ∙ as_before number parent (symbolic_link permissions text) name can free bytes_of_node refl refl m))
+      (fun_ext (attributes number parent (symbolic_link permissions text) name can free)) refl
 
   -- one more name
   module _ (number parent : ℕ) (name : Name) (can : CanLink limits v number parent name) where
@@ -372,9 +372,10 @@ module _ (limits : Limits) (v : Volume) (volume : IsVolume limits v) (table : �
       )
   changes_tree (write number offset bytes) can free = ap (λ w. tree_of w table) (bytes_swept limits v volume table mounted number (written offset bytes) can.0) ∙ bytes_tree limits v volume table mounted number (written offset bytes) can.0
   changes_tree (truncate number size) can free = ap (λ w. tree_of w table) (bytes_swept limits v volume table mounted number (resized size) can.0) ∙ bytes_tree limits v volume table mounted number (resized size) can.0
-  changes_tree (change_mode number mode) can free =
-      let there = either_there (v number) can.0 in
-      ap (λ w. tree_of w table) (changed_swept limits v volume table mounted number (set_mode mode) there) ∙ changed_tree limits v volume table mounted number (set_mode mode) there
+  changes_tree (change_attributes number permissions modified) can free =
+      let f = set_given permissions modified in
+      let there = takes_there limits.has_attributes (v number) permissions.mode can.0 in
+      ap (λ w. tree_of w table) (changed_swept limits v volume table mounted number f there) ∙ changed_tree limits v volume table mounted number f there
   changes_tree (set_file number mode size) can free = set_tree limits v volume table mounted number mode size can
 
   -- what was a file is one still
@@ -392,8 +393,9 @@ module _ (limits : Limits) (v : Volume) (volume : IsVolume limits v) (table : �
       by_node limits v volume table mounted number (with_file_bytes (written offset bytes) (v number)) (bytes_names (written offset bytes) (v number)) (bytes_object limits v volume table mounted (written offset bytes) (v number)) (bytes_orphan (written offset bytes) (v number)) is_file_node (bytes_by is_file_node (λ attributes links a b. refl) (written offset bytes) (v number)) n ∙ is
   files_stay (truncate number size) can free n is =
       by_node limits v volume table mounted number (with_file_bytes (resized size) (v number)) (bytes_names (resized size) (v number)) (bytes_object limits v volume table mounted (resized size) (v number)) (bytes_orphan (resized size) (v number)) is_file_node (bytes_by is_file_node (λ attributes links a b. refl) (resized size) (v number)) n ∙ is
-  files_stay (change_mode number mode) can free n is =
-      by_node limits v volume table mounted number (with_node_attributes (set_mode mode) (v number)) (attributes_names (set_mode mode) (v number)) (attributes_object (set_mode mode) (v number)) (attributes_orphan (set_mode mode) (v number)) is_file_node (attributes_file (set_mode mode) (v number)) n ∙ is
+  files_stay (change_attributes number permissions modified) can free n is =
+      let f = set_given permissions modified in
+      by_node limits v volume table mounted number (with_node_attributes f (v number)) (attributes_names f (v number)) (attributes_object f (v number)) (attributes_orphan f (v number)) is_file_node (attributes_file f (v number)) n ∙ is
   files_stay (set_file number mode size) can free n is = set_files limits v volume table mounted number mode size can n is
 
   -- and with the times
@@ -418,7 +420,7 @@ module _ (limits : Limits) (v : Volume) (volume : IsVolume limits v) (table : �
   )
   changes_marked time (write number offset bytes) after is = ap (marked time (touches_object Data number)) is
   changes_marked time (truncate number size) after is = ap (marked time (touches_object Data number)) is
-  changes_marked time (change_mode number mode) after is = ap (marked time (touches_object Status number)) is
+  changes_marked time (change_attributes number permissions modified) after is = ap (marked time (touches_object Status number)) is
   changes_marked time (set_file number mode size) after is = ap (marked time (touches_object Data number)) is
 
 pub records_change_trees : RecordsChangeTrees

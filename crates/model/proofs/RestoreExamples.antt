@@ -5,6 +5,7 @@ use Rattle.model.specs.declared.errno.Errno.TheVariants.{EBUSY, NOSNAP}
 use Rattle.model.specs.declared.reply.Reply.TheVariants as reply
 use Rattle.model.specs.declared.command.Command.TheVariants as command
 use Rattle.model.specs.Trees.{Tree, root_alone}
+use Rattle.model.specs.Attributes.{mode_alone}
 use Rattle.model.specs.Edits.{with_directory, with_file, with_descriptor}
 use Rattle.model.specs.Room.{Room, Need, nothing, a_restore, IsShort}
 use Rattle.model.specs.States.{State, empty, with_tree, with_snapshots}
@@ -20,11 +21,11 @@ room_of free = record { costs = costs; blocks = 64; free = free; pledged = 0; is
 
 abbrev taken : State
 taken =
-    let t : Tree = with_directory (codes "a" ∷ []) 4 0o755 (root_alone 0o755) in with_snapshots ((codes "s", t) ∷ []) (with_tree t (empty limits))
+    let t : Tree = with_directory (codes "a" ∷ []) 4 (mode_alone 0o755) (root_alone 0o755) in with_snapshots ((codes "s", t) ∷ []) (with_tree t (empty limits))
 
 -- the tree that has another file since, and not the directory
 abbrev changed : State
-changed = with_tree (with_file (codes "f" ∷ []) 4 0o644 (root_alone 0o755)) taken
+changed = with_tree (with_file (codes "f" ∷ []) 4 (mode_alone 0o644) (root_alone 0o755)) taken
 
 -- `snap restore s`: the tree is the one that was taken, and the snapshot stays
 restores_s : WouldStep (room_of 60) changed (command.SnapRestore (codes "s")) reply.Done taken (a_restore 3)

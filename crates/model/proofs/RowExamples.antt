@@ -1,25 +1,31 @@
 -- Worked rows of commands with their replies, on trees.
 use Rattle.std.proofs.Common.{◌≡◌, ℕ, List, [], ◌∷◌, ◌++◌, true, false, refl, replicate, Some, None, lit≤}
 use Rattle.std.specs.Prelude.{codes, pos, negsuc, nat_lt, if◌then◌else◌}
-use Rattle.model.specs.declared.errno.Errno.TheVariants.{ENOENT, ENOTDIR, EISDIR, EEXIST, EINVAL, ENAMETOOLONG, EPERM, EBUSY, EBADF, EFBIG, EMFILE, EOVERFLOW}
+use Rattle.model.specs.declared.errno.Errno.TheVariants.{ENOENT, ENOTDIR, EISDIR, EEXIST, EINVAL, ENAMETOOLONG, EPERM, EBUSY, EBADF, ENOTSUP, EFBIG, EMFILE, EOVERFLOW}
 use Rattle.model.specs.declared.reply.Reply.TheVariants as reply
 use Rattle.model.specs.declared.reply.FileType.TheVariants as kind
 use Rattle.model.specs.declared.command.Whence.TheVariants as whence
 use Rattle.model.specs.declared.command.Access.TheVariants as access
 use Rattle.model.specs.declared.command.Flags.{Flags}
+use Rattle.model.specs.declared.command.NewTime.TheVariants as times
+use Rattle.model.specs.declared.command.PathCall.TheVariants as call
 use Rattle.model.specs.declared.attributes.Attributes.{Attributes}
+use Rattle.model.specs.declared.attributes.Permissions.{Permissions}
 use Rattle.model.specs.declared.attributes.Touch.TheVariants.{Data, Status}
+use Rattle.model.specs.declared.session.Session.{Session}
 use Rattle.model.specs.declared.time.Time.{Time}
-use Rattle.model.specs.Attributes.{new_attributes}
+use Rattle.model.specs.declared.limits.TheConstants.{LINK_MODE}
+use Rattle.model.specs.Attributes.{mode_alone, new_attributes, set_owners}
 use Rattle.model.specs.Touches.{touches_move, touches_object}
 use Rattle.model.specs.Paths.{Path}
 use Rattle.model.specs.Trees.{Tree, Description, directory, symlink, file, root_alone}
-use Rattle.model.specs.Edits.{with_object, without_object, with_directory, with_file, with_bytes, with_descriptor, marked, moved}
+use Rattle.model.specs.Edits.{changing_attributes, with_object, without_object, with_directory, with_file, with_bytes, with_descriptor, marked, moved}
 use Rattle.model.specs.Resolution.{resolve, named, missing, refused}
 use Rattle.model.specs.Room.{nothing, logs, adds_name, removes_name, puts_bytes, changes_size, changes_bits, cost, headroom}
-use Rattle.model.specs.Reading.{stats, reads_link, gets}
-use Rattle.model.specs.Changing.{entered, makes_directory, makes_symlink, removes_directory, unlinks, links, renames}
+use Rattle.model.specs.Reading.{attributes, stats, reads_link, gets}
+use Rattle.model.specs.Changing.{changes_owners, changes_times, entered, makes_directory, makes_symlink, removes_directory, unlinks, links, renames}
 use Rattle.model.specs.Descriptors.{opens, closes, reads, reads_from, writes, writes_to, seeks, truncates_open}
+use Rattle.model.specs.Steps.{calls}
 use Rattle.model.proofs.ToldLemmas.{Told, told_root, told_directory, told_moved, told_touched, moved_paths, listing_told, fresh_told, used_alone}
 use Rattle.model.proofs.ExampleLimits.{costs, limits, timed_limits}
 
@@ -43,22 +49,22 @@ a_slash_last = (refl, refl, refl)
 two_slashes_alone : stats limits fresh true (codes "//") (reply.Refused EINVAL) fresh nothing
 two_slashes_alone = (refl, refl, refl)
 
-a_dot_last : makes_directory limits None fresh (codes "/a/.") 0o755 (reply.Refused EINVAL) fresh nothing
+a_dot_last : makes_directory limits None fresh (codes "/a/.") (mode_alone 0o755) (reply.Refused EINVAL) fresh nothing
 a_dot_last = (refl, refl, refl)
 
-the_root_is_there : makes_directory limits None fresh (codes "/") 0o755 (reply.Refused EEXIST) fresh nothing
+the_root_is_there : makes_directory limits None fresh (codes "/") (mode_alone 0o755) (reply.Refused EEXIST) fresh nothing
 the_root_is_there = (refl, refl, refl)
 
 the_root_stays : removes_directory limits None fresh (codes "/") (reply.Refused EBUSY) fresh nothing
 the_root_stays = (refl, refl, refl)
 
-a_name_of_256_bytes : makes_directory limits None fresh (codes "/" ++ replicate 256 97) 0o755 (reply.Refused ENAMETOOLONG) fresh nothing
+a_name_of_256_bytes : makes_directory limits None fresh (codes "/" ++ replicate 256 97) (mode_alone 0o755) (reply.Refused ENAMETOOLONG) fresh nothing
 a_name_of_256_bytes = (refl, refl, refl)
 
 a_path_of_1024_bytes : stats limits fresh true (replicate 1024 47) (reply.Refused ENAMETOOLONG) fresh nothing
 a_path_of_1024_bytes = (refl, refl, refl)
 
-opens_the_root : opens false 32 limits None fresh (codes "/") reading 0o644 (reply.Refused EISDIR) fresh nothing
+opens_the_root : opens false 32 limits None fresh (codes "/") reading (mode_alone 0o644) (reply.Refused EISDIR) fresh nothing
 opens_the_root = (refl, refl, refl)
 
 closes_nothing : closes fresh 0 (reply.Refused EBADF) fresh nothing
@@ -67,7 +73,7 @@ closes_nothing = (refl, refl, refl)
 -- `mkdir /a`, `mkdir /a/b`, `mkdir /c`, `rename /a /c`: an empty directory is replaced, and `/c/b` stands
 
 abbrev three : Tree
-three = with_directory (codes "c" ∷ []) 6 0o755 (with_directory (codes "a" ∷ codes "b" ∷ []) 5 0o755 (with_directory (codes "a" ∷ []) 4 0o755 fresh))
+three = with_directory (codes "c" ∷ []) 6 (mode_alone 0o755) (with_directory (codes "a" ∷ codes "b" ∷ []) 5 (mode_alone 0o755) (with_directory (codes "a" ∷ []) 4 (mode_alone 0o755) fresh))
 
 what_is_moved : ((moved (codes "a" ∷ []) (codes "c" ∷ []) three).objects (codes "c" ∷ []) ≡ Some (directory 4)) × ((moved (codes "a" ∷ []) (codes "c" ∷ []) three).objects (codes "c" ∷ codes "b" ∷ []) ≡ Some (directory 5)) × ((moved (codes "a" ∷ []) (codes "c" ∷ []) three).objects (codes "a" ∷ []) ≡ None)
 what_is_moved = (refl, refl, refl)
@@ -110,7 +116,7 @@ stat_of_a_link = (1, refl, (refl, refl, refl))
 stat_of_what_it_names : stats limits linked true (codes "/l") (reply.Stat (record { number = 5; kind = kind.Dir; mode = 0o755; links = 1; size = 0 })) linked nothing
 stat_of_what_it_names = (1, refl, (refl, refl, refl))
 
-text_before_path : makes_symlink limits None linked [] [] (reply.Refused ENOENT) linked nothing
+text_before_path : makes_symlink limits None linked [] [] (mode_alone LINK_MODE) (reply.Refused ENOENT) linked nothing
 text_before_path = (refl, refl, refl)
 
 links_a_link : links limits None linked (codes "/l") (codes "/m") (reply.Refused EPERM) linked nothing
@@ -122,7 +128,7 @@ abbrev at_offset : ℕ → Description
 at_offset offset = record { number = 4; offset = offset; reads = true; writes = true; appends = false }
 
 abbrev file_of : List ℕ → ℕ → Tree
-file_of bytes offset = with_descriptor 0 (Some (at_offset offset)) (with_bytes 4 bytes (with_file (codes "f" ∷ []) 4 0o644 fresh))
+file_of bytes offset = with_descriptor 0 (Some (at_offset offset)) (with_bytes 4 bytes (with_file (codes "f" ∷ []) 4 (mode_alone 0o644) fresh))
 
 seeks_past_the_end : seeks (file_of [] 0) 0 whence.Set (pos 10) (reply.At 10) (with_descriptor 0 (Some (at_offset 10)) (file_of [] 0)) nothing
 seeks_past_the_end = (refl, refl, refl)
@@ -182,8 +188,8 @@ costs_of_sizes = (refl, refl, refl, refl)
 
 abbrev renamed : Tree
 renamed =
-    with_object (codes "l" ∷ []) (symlink 7 (codes "c/../c/b")) (with_directory (codes "e" ∷ []) 6 0o755
-    (with_directory (codes "c" ∷ codes "b" ∷ []) 5 0o755 (with_directory (codes "c" ∷ []) 4 0o755 fresh)))
+    with_object (codes "l" ∷ []) (symlink 7 (codes "c/../c/b")) (with_directory (codes "e" ∷ []) 6 (mode_alone 0o755)
+    (with_directory (codes "c" ∷ codes "b" ∷ []) 5 (mode_alone 0o755) (with_directory (codes "c" ∷ []) 4 (mode_alone 0o755) fresh)))
 
 stat_through_the_link : stats limits renamed true (codes "/l") (reply.Stat (record { number = 5; kind = kind.Dir; mode = 0o755; links = 1; size = 0 })) renamed nothing
 stat_through_the_link = (1, refl, (refl, refl, refl))
@@ -210,7 +216,7 @@ link_to_what_is_gone = (refl, refl, refl)
 -- two names of one file: `rename` of one to the other changes nothing
 
 abbrev two_names : Tree
-two_names = with_object (codes "y" ∷ []) (file 5) (with_file (codes "x" ∷ []) 5 0o644 (with_directory (codes "d" ∷ []) 4 0o755 fresh))
+two_names = with_object (codes "y" ∷ []) (file 5) (with_file (codes "x" ∷ []) 5 (mode_alone 0o644) (with_directory (codes "d" ∷ []) 4 (mode_alone 0o755) fresh))
 
 onto_the_same_file : renames limits None two_names false (codes "/x") (codes "/y") reply.Done two_names nothing
 onto_the_same_file = (refl, refl, refl)
@@ -224,7 +230,7 @@ abbrev appending : ℕ → Description
 appending offset = record { number = 4; offset = offset; reads = true; writes = true; appends = true }
 
 abbrev log_of : List ℕ → ℕ → Tree
-log_of bytes offset = with_descriptor 0 (Some (appending offset)) (with_bytes 4 bytes (with_file (codes "f" ∷ []) 4 0o644 fresh))
+log_of bytes offset = with_descriptor 0 (Some (appending offset)) (with_bytes 4 bytes (with_file (codes "f" ∷ []) 4 (mode_alone 0o644) fresh))
 
 appends_two : writes limits None (log_of [] 0) 0 (0x61 ∷ 0x62 ∷ []) (reply.Wrote 2) (with_descriptor 0 (Some (appending 2)) (with_bytes 4 (0x61 ∷ 0x62 ∷ []) (log_of [] 0))) (logs (puts_bytes 0 0 2))
 appends_two = (refl, refl, refl)
@@ -241,7 +247,7 @@ appends_from_the_start = (refl, refl, refl)
 reads_behind_the_end : reads (log_of (0x63 ∷ 0x62 ∷ 0x64 ∷ []) 3) 0 5 (reply.Data []) (with_descriptor 0 (Some (appending 3)) (log_of (0x63 ∷ 0x62 ∷ 0x64 ∷ []) 3)) nothing
 reads_behind_the_end = (refl, refl, refl)
 
-creates_what_is_there : opens false 32 limits None (log_of [] 0) (codes "/f") (record reading { creates = true; exclusive = true }) 0o644 (reply.Refused EEXIST) (log_of [] 0) nothing
+creates_what_is_there : opens false 32 limits None (log_of [] 0) (codes "/f") (record reading { creates = true; exclusive = true }) (mode_alone 0o644) (reply.Refused EEXIST) (log_of [] 0) nothing
 creates_what_is_there = (refl, refl, refl)
 
 grown_by_zeros : truncates_open limits None (file_of [] 0) 0 (pos 3) reply.Done (with_bytes 4 (0 ∷ 0 ∷ 0 ∷ []) (file_of [] 0)) (logs (changes_size 0 3))
@@ -269,7 +275,7 @@ writes_too_far = (refl, refl, refl)
 abbrev crowded : Tree
 crowded = record (file_of [] 0) { descriptors = λ d. if nat_lt d 32 then Some (at_offset 0) else None }
 
-one_file_too_many : opens false 32 limits None crowded (codes "/f") reading 0o644 (reply.Refused EMFILE) crowded nothing
+one_file_too_many : opens false 32 limits None crowded (codes "/f") reading (mode_alone 0o644) (reply.Refused EMFILE) crowded nothing
 one_file_too_many = (refl, refl, refl)
 
 -- where times are kept: `mkdir /a/b` at one of them, and `rename /a/b /c` at another
@@ -281,7 +287,7 @@ abbrev noon : Time
 noon = record { seconds = pos 43200; nanoseconds = 0 }
 
 abbrev at_times : ℕ → Time → Time → Attributes
-at_times mode modified changed = record (new_attributes mode) { modified = modified; changed = changed }
+at_times mode modified changed = record (new_attributes (mode_alone mode)) { modified = modified; changed = changed }
 
 abbrev at_a : Path
 at_a = codes "a" ∷ []
@@ -293,23 +299,23 @@ abbrev at_c : Path
 at_c = codes "c" ∷ []
 
 abbrev with_a : Tree
-with_a = with_directory at_a 4 0o755 fresh
+with_a = with_directory at_a 4 (mode_alone 0o755) fresh
 
 with_a_is : Told with_a (at_a ∷ [] ∷ []) [] (4 ∷ 3 ∷ [])
-with_a_is = told_directory (told_root 0o755) at_a 4 0o755
+with_a_is = told_directory (told_root 0o755) at_a 4 (mode_alone 0o755)
 
 abbrev made_at_dawn : Tree
-made_at_dawn = entered (Some dawn) Data 5 at_a with_a (with_directory at_b 5 0o700 with_a)
+made_at_dawn = entered (Some dawn) Data 5 at_a with_a (with_directory at_b 5 (mode_alone 0o700) with_a)
 
-makes_b_at_dawn : makes_directory timed_limits (Some dawn) with_a (codes "/a/b") 0o700 reply.Done made_at_dawn (logs adds_name)
+makes_b_at_dawn : makes_directory timed_limits (Some dawn) with_a (codes "/a/b") (mode_alone 0o700) reply.Done made_at_dawn (logs adds_name)
 makes_b_at_dawn = ([], listing_told with_a_is at_a [] refl, (Some 5, fresh_told with_a_is timed_limits 1 (lit≤ tt) refl refl, (refl, refl, refl)))
 
 -- the new directory and its parent have the time, and the root hasn't
-times_of_making : (made_at_dawn.attributes 5 ≡ Some (at_times 0o700 dawn dawn)) × (made_at_dawn.attributes 4 ≡ Some (at_times 0o755 dawn dawn)) × (made_at_dawn.attributes 3 ≡ Some (new_attributes 0o755))
+times_of_making : (made_at_dawn.attributes 5 ≡ Some (at_times 0o700 dawn dawn)) × (made_at_dawn.attributes 4 ≡ Some (at_times 0o755 dawn dawn)) × (made_at_dawn.attributes 3 ≡ Some (new_attributes (mode_alone 0o755)))
 times_of_making = (refl, refl, refl)
 
 made_is : Told made_at_dawn (at_b ∷ at_a ∷ [] ∷ []) [] (5 ∷ 4 ∷ 3 ∷ [])
-made_is = told_touched (told_touched (told_directory with_a_is at_b 5 0o700) dawn Data 5) dawn Data 4
+made_is = told_touched (told_touched (told_directory with_a_is at_b 5 (mode_alone 0o700)) dawn Data 5) dawn Data 4
 
 abbrev moved_at_noon : Tree
 moved_at_noon = marked (Some noon) (touches_move (Some 5) None (Some 4) (Some 3)) (moved at_b at_c made_at_dawn)
@@ -327,3 +333,46 @@ times_of_moving = (refl, refl, refl)
 -- a size that a file has already changes its times
 truncated_to_same : truncates_open timed_limits (Some noon) (file_of (97 ∷ []) 0) 0 (pos 1) reply.Done (marked (Some noon) (touches_object Data 4) (with_bytes 4 (97 ∷ []) (file_of (97 ∷ []) 0))) (logs (changes_size 1 1))
 truncated_to_same = (refl, refl, refl)
+
+-- where no attributes are kept, `chown` is refused, whatever its path is
+keeps_no_owners : changes_owners limits None fresh true [] (Some 5) None (reply.Refused ENOTSUP) fresh nothing
+keeps_no_owners = (refl, refl, refl)
+
+-- `as 5 7`, and then `mkdir /a`
+
+abbrev said : Session
+said = record { time = dawn; owner = 5; group = 7 }
+
+abbrev of_said : Permissions
+of_said = record { mode = 0o755; owner = 5; group = 7 }
+
+abbrev with_owned : Tree
+with_owned = entered (Some dawn) Data 4 [] fresh (with_directory at_a 4 of_said fresh)
+
+makes_owned : calls timed_limits said fresh (call.Mkdir (codes "/a") 0o755) reply.Done with_owned (logs adds_name)
+makes_owned = ([], listing_told (told_root 0o755) [] [] refl, (Some 4, fresh_told (told_root 0o755) timed_limits 0 (lit≤ tt) refl refl, (refl, refl, refl)))
+
+owners_of_making : with_owned.attributes 4 ≡ Some (record (at_times 0o755 dawn dawn) { owner = 5; group = 7 })
+owners_of_making = refl
+
+-- `chown /a 9 -` keeps the group, and the time of its data
+abbrev given_away : Tree
+given_away = marked (Some noon) (touches_object Status 4) (changing_attributes 4 (set_owners (Some 9) None) with_owned)
+
+gives_away : changes_owners timed_limits (Some noon) with_owned true (codes "/a") (Some 9) None reply.Done given_away (logs changes_bits)
+gives_away = (refl, refl, refl)
+
+owners_of_giving : given_away.attributes 4 ≡ Some (record (at_times 0o755 dawn noon) { owner = 9; group = 7 })
+owners_of_giving = refl
+
+-- `attr /a` tells what `stat` tells, and the rest
+tells_owned : attributes timed_limits given_away true (codes "/a")
+    (reply.Attributes (record { number = 4; kind = kind.Dir; mode = 0o755; links = 1; size = 0 }) (record (at_times 0o755 dawn noon) { owner = 9; group = 7 })) given_away nothing
+tells_owned = (1, refl, (refl, refl, refl))
+
+-- `utimens /a omit` changes nothing, and a whole second of nanoseconds is too many
+omits_the_time : changes_times timed_limits (Some noon) with_owned true (codes "/a") times.Omit reply.Done with_owned nothing
+omits_the_time = (refl, refl, refl)
+
+a_second_of_nanoseconds : changes_times timed_limits (Some noon) with_owned true (codes "/a") (times.At (pos 0) 1000000000) (reply.Refused EINVAL) with_owned nothing
+a_second_of_nanoseconds = (refl, refl, refl)

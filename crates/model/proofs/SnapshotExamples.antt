@@ -8,6 +8,7 @@ use Rattle.model.specs.declared.command.Command.TheVariants as command
 use Rattle.model.specs.declared.command.PathCall.TheVariants as call
 use Rattle.model.specs.Paths.{Name, Path}
 use Rattle.model.specs.Trees.{Tree, root_alone}
+use Rattle.model.specs.Attributes.{mode_alone}
 use Rattle.model.specs.Edits.{without_object, with_bytes, with_file}
 use Rattle.model.specs.Room.{Room, nothing, logs, a_snapshot, removes_name}
 use Rattle.model.specs.States.{State, empty, with_tree, with_snapshots}
@@ -98,10 +99,10 @@ abbrev at_f : Path
 at_f = codes "f" ∷ []
 
 abbrev full : Tree
-full = with_bytes 4 (replicate 65536 0x61) (with_file at_f 4 0o644 (root_alone 0o755))
+full = with_bytes 4 (replicate 65536 0x61) (with_file at_f 4 (mode_alone 0o644) (root_alone 0o755))
 
 full_is : Told full (at_f ∷ [] ∷ []) [] (4 ∷ 4 ∷ 4 ∷ 3 ∷ [])
-full_is = told_bytes (told_file (told_root 0o755) at_f 4 0o644) 4 (replicate 65536 0x61)
+full_is = told_bytes (told_file (told_root 0o755) at_f 4 (mode_alone 0o644)) 4 (replicate 65536 0x61)
 
 abbrev kept : State
 kept = with_snapshots ((codes "s", full) ∷ []) (empty limits)

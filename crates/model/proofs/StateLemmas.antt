@@ -1,5 +1,5 @@
 -- Each outcome of a command on a state is a state.
-use Rattle.std.proofs.Common.{◌≡◌, ◌≢◌, ◌⊎◌, inl, inr, ℕ, zero, suc, ◌≤◌, ◌<◌, List, [], ◌∷◌, ◌++◌, length, get_or, map, Bool, true, false, not, ◌||◌, is_none, bytes_eq, Option, Some, None, refl, sym, subst, ◌∙◌, length-append, arith}
+use Rattle.std.proofs.Common.{◌≡◌, ◌≢◌, ◌⊎◌, inl, inr, ℕ, zero, suc, ◌≤◌, ◌<◌, List, [], ◌∷◌, ◌++◌, length, get_or, map, Bool, true, false, not, ◌||◌, is_none, bytes_eq, Option, Some, None, refl, sym, subst, ◌∙◌, length-append, arith, lit≤}
 use Rattle.std.specs.Int.{w64}
 use Rattle.std.specs.Prelude.{ℤ, FitsSigned, ◌==◌, nat_lt, find, filter, All, MatchBool, IsFalse}
 use Rattle.std.proofs.lemmas.Bool.{cases_Bool, cond_both, cond-true, cond-false, eqb-false, leb-false, ltb-false, or_parts, false≢true}
@@ -9,7 +9,7 @@ use Rattle.std.proofs.lemmas.List.Quantifiers.{all_pairs_push}
 use Rattle.std.proofs.lemmas.Slice.Eq.{bytes_eq-Decides}
 use Rattle.std.specs.List.{list_any}
 use Rattle.model.specs.declared.limits.Limits.{Limits}
-use Rattle.model.specs.declared.limits.TheConstants.{MOST_NANOSECONDS, OPEN_FILES, SNAPSHOT_NAME_BYTES}
+use Rattle.model.specs.declared.limits.TheConstants.{GREATEST_OWNER, LINK_MODE, MOST_NANOSECONDS, OPEN_FILES, SNAPSHOT_NAME_BYTES}
 use Rattle.model.specs.declared.errno.Errno.TheVariants.{EBUSY, NOSNAP, EROFS, EIO, FAILED}
 use Rattle.model.specs.declared.reply.Reply.{Reply}
 use Rattle.model.specs.declared.reply.Reply.TheVariants as reply
@@ -21,40 +21,46 @@ use Rattle.model.specs.Paths.{Name, Tests, first_refusal}
 use Rattle.model.specs.Trees.{Tree, IsTree, root_alone}
 use Rattle.model.specs.Room.{Room, Need}
 use Rattle.model.specs.Outcomes.{Outcome}
-use Rattle.model.specs.declared.time.Time.{Time}
+use Rattle.model.specs.declared.session.Session.{Session}
 use Rattle.model.specs.Attributes.{KeepsTime}
-use Rattle.model.specs.States.{State, now_of, going, failed, IsState, IsFrozen, IsShortName, with_tree, with_snapshots, as_failed, ForgetsOpenFiles}
-use Rattle.model.specs.Steps.{Step, says, passing, on_tree, calls, is_reading_call, frozen, is_name_byte, take_tests, takes, deletes, has_open_below, restores, views, at_tests, sets_time, WouldStep}
+use Rattle.model.specs.Reading.{attribute_tests}
+use Rattle.model.specs.Sessions.{IsSession, call_time, new_permissions}
+use Rattle.model.specs.States.{State, now_of, permissions_in, going, failed, IsState, IsFrozen, IsShortName, with_tree, with_snapshots, as_failed, ForgetsOpenFiles}
+use Rattle.model.specs.Steps.{Step, says, passing, on_tree, calls, is_reading_call, frozen, is_name_byte, take_tests, takes, deletes, has_open_below, restores, views, at_tests, sets_time, sets_owner, WouldStep}
 use Rattle.model.specs.Circumstances.{Circumstances, IsDone, IsSure, IsExcused, CoversWhereOk, IsAnswered, Allowed}
 use Rattle.model.specs.Laws.{IsCommand, IsPathCall, CommandsLeaveStates, AllowedAreStates, MountsFindStates}
+use Rattle.model.proofs.AttributeLaws.{permissions_fit}
 use Rattle.model.proofs.LeadLemmas.{AllPass, all_passed}
 use Rattle.model.proofs.NewTreeLemmas.{new_is_session, root_is_tree, tree_is_state}
 use Rattle.model.proofs.LooseLemmas.{swept_is_tree, closed_is_loose}
 use Rattle.model.proofs.TreeMarkLemmas.{time_kept}
-use Rattle.model.proofs.StayLemmas.{LeavesTree, stays_stat, stays_list, stays_entries, stays_store, stays_readlink, stays_get, stays_truncate, stays_chmod, stays_set, stays_close, stays_read, stays_pread, stays_write, stays_pwrite, stays_seek, stays_ftruncate, stays_fchmod, stays_fstat, stays_fsync, stays_extent}
+use Rattle.model.proofs.StayLemmas.{LeavesTree, stays_attr, stays_stat, stays_list, stays_entries, stays_store, stays_readlink, stays_get, stays_truncate, stays_chmod, stays_chown, stays_utimens, stays_set, stays_close, stays_read, stays_pread, stays_write, stays_pwrite, stays_seek, stays_ftruncate, stays_fchmod, stays_fchown, stays_futimens, stays_fattr, stays_fstat, stays_fsync, stays_extent}
 use Rattle.model.proofs.CallLemmas.{stays_mkdir, stays_symlink, stays_link, stays_rmdir, stays_unlink, stays_open}
 use Rattle.model.proofs.ReplaceLemmas.{stays_rename}
 use Rattle.model.proofs.OptionLaws.{none_some, some_same}
 
 -- the calls by path
-stays_path : (limits : Limits) (t : Tree) → IsTree limits t → (now : Option Time) → KeepsTime limits.has_attributes now → (c : PathCall) → IsPathCall c → LeavesTree limits (calls limits now t c)
-stays_path limits t tree now timed (call.List path) bound = stays_list limits t tree path
-stays_path limits t tree now timed (call.Entries path after count) bound = stays_entries limits t tree path after count
-stays_path limits t tree now timed (call.Stat path) bound = stays_stat limits t tree true path
-stays_path limits t tree now timed (call.Lstat path) bound = stays_stat limits t tree false path
-stays_path limits t tree now timed (call.Readlink path) bound = stays_readlink limits t tree path
-stays_path limits t tree now timed (call.Get path offset count) bound = stays_get limits t tree path offset count
-stays_path limits t tree now timed (call.Mkdir path mode) bound = stays_mkdir limits t tree now timed path mode bound
-stays_path limits t tree now timed (call.Rmdir path) bound = stays_rmdir limits t tree now timed path
-stays_path limits t tree now timed (call.Unlink path) bound = stays_unlink limits t tree now timed path
-stays_path limits t tree now timed (call.Link old path) bound = stays_link limits t tree now timed old path
-stays_path limits t tree now timed (call.Symlink text path) bound = stays_symlink limits t tree now timed text path
-stays_path limits t tree now timed (call.Rename old path) bound = stays_rename limits t tree now timed false old path
-stays_path limits t tree now timed (call.RenameNew old path) bound = stays_rename limits t tree now timed true old path
-stays_path limits t tree now timed (call.Chmod path mode) bound = stays_chmod limits t tree now timed path mode bound
-stays_path limits t tree now timed (call.Truncate path size) bound = stays_truncate limits t tree now timed path size
-stays_path limits t tree now timed (call.Store path offset given) bound = stays_store limits t tree now timed path offset given
-stays_path limits t tree now timed (call.Set path settings) bound = stays_set limits t tree now timed path settings bound
+stays_path : (limits : Limits) (t : Tree) → IsTree limits t → (said : Session) → IsSession said → (c : PathCall) → IsPathCall c → LeavesTree limits (calls limits said t c)
+stays_path limits t tree said session (call.List path) bound = stays_list limits t tree path
+stays_path limits t tree said session (call.Entries path after count) bound = stays_entries limits t tree path after count
+stays_path limits t tree said session (call.Stat path) bound = stays_stat limits t tree true path
+stays_path limits t tree said session (call.Lstat path) bound = stays_stat limits t tree false path
+stays_path limits t tree said session (call.Attr path follow) bound = stays_attr limits t tree follow path
+stays_path limits t tree said session (call.Readlink path) bound = stays_readlink limits t tree path
+stays_path limits t tree said session (call.Get path offset count) bound = stays_get limits t tree path offset count
+stays_path limits t tree said session (call.Mkdir path mode) bound = stays_mkdir limits t tree (call_time limits said) (time_kept limits said.time session.time) path (new_permissions limits said mode) (permissions_fit limits said mode session bound)
+stays_path limits t tree said session (call.Rmdir path) bound = stays_rmdir limits t tree (call_time limits said) (time_kept limits said.time session.time) path
+stays_path limits t tree said session (call.Unlink path) bound = stays_unlink limits t tree (call_time limits said) (time_kept limits said.time session.time) path
+stays_path limits t tree said session (call.Link old path) bound = stays_link limits t tree (call_time limits said) (time_kept limits said.time session.time) old path
+stays_path limits t tree said session (call.Symlink text path) bound = stays_symlink limits t tree (call_time limits said) (time_kept limits said.time session.time) text path (new_permissions limits said LINK_MODE) (permissions_fit limits said LINK_MODE session (lit≤ tt))
+stays_path limits t tree said session (call.Rename old path) bound = stays_rename limits t tree (call_time limits said) (time_kept limits said.time session.time) false old path
+stays_path limits t tree said session (call.RenameNew old path) bound = stays_rename limits t tree (call_time limits said) (time_kept limits said.time session.time) true old path
+stays_path limits t tree said session (call.Chmod path mode) bound = stays_chmod limits t tree (call_time limits said) (time_kept limits said.time session.time) path mode bound
+stays_path limits t tree said session (call.Chown path follow owner group) bound = stays_chown limits t tree (call_time limits said) (time_kept limits said.time session.time) follow path owner group bound
+stays_path limits t tree said session (call.Utimens path follow time) bound = stays_utimens limits t tree (call_time limits said) (time_kept limits said.time session.time) follow path time bound
+stays_path limits t tree said session (call.Truncate path size) bound = stays_truncate limits t tree (call_time limits said) (time_kept limits said.time session.time) path size
+stays_path limits t tree said session (call.Store path offset given) bound = stays_store limits t tree (call_time limits said) (time_kept limits said.time session.time) path offset given
+stays_path limits t tree said session (call.Set path settings) bound = stays_set limits t tree (call_time limits said) (time_kept limits said.time session.time) path settings bound
 
 -- a snapshot is a tree without descriptors
 forgotten_is_frozen : (limits : Limits) (old new : Tree) → IsTree limits old → ForgetsOpenFiles old new → IsFrozen limits new
@@ -161,7 +167,7 @@ module _ (s : State) (state : IsState s) where
   leaves_view name c =
       elim (frozen s name) as (λ o. LeavesState (elim o as (λ _. Step) [
         | None ↦ says s (reply.Refused NOSNAP)
-        | Some pair ↦ passing s ((not (is_reading_call c), EROFS) ∷ []) (λ answer new need. calls s.limits (now_of s) pair.1 c answer pair.1 need × (new ≡ s))
+        | Some pair ↦ passing s ((not (is_reading_call c), EROFS) ∷ []) (λ answer new need. calls s.limits s.session pair.1 c answer pair.1 need × (new ≡ s))
       ])) [
         | None ↦ leaves_same (reply.Refused NOSNAP)
         | Some pair ↦ leaves_passing ((not (is_reading_call c), EROFS) ∷ []) _ (λ pass answer new need done. subst IsState (sym done.1) state)
@@ -178,13 +184,28 @@ module _ (s : State) (state : IsState s) where
         names = state.names;
         few = state.few;
         once = state.once;
-        session = record { time = record { seconds = bound; nanoseconds = ltb-false MOST_NANOSECONDS nanoseconds pass.1.0 } };
+        session = record {
+          time = record { seconds = bound; nanoseconds = ltb-false MOST_NANOSECONDS nanoseconds pass.1.0 };
+          owner = state.session.owner;
+          group = state.session.group;
+        };
+      }))
+
+  leaves_owner : (owner group : ℕ) → (owner ≤ GREATEST_OWNER) × (group ≤ GREATEST_OWNER) → LeavesState (sets_owner s owner group)
+  leaves_owner owner group bound =
+      leaves_passing (attribute_tests s.limits) _ (λ pass answer new need done. subst IsState (sym done.1) (record {
+        tree = state.tree;
+        frozen = state.frozen;
+        names = state.names;
+        few = state.few;
+        once = state.once;
+        session = record { time = state.session.time; owner = bound.0; group = bound.1 };
       }))
 
   leaves_step : (room : Room) (c : Command) → IsCommand c → LeavesState (WouldStep room s c)
-  leaves_step room (command.Path c) bound = leaves_on_tree _ (stays_path s.limits s.tree state.tree (now_of s) timed c bound)
-  leaves_step room (command.Open path flags mode below) bound = leaves_on_tree _ (stays_open s.limits s.tree state.tree (now_of s) timed false below path flags mode bound)
-  leaves_step room (command.OpenStat path flags mode below) bound = leaves_on_tree _ (stays_open s.limits s.tree state.tree (now_of s) timed true below path flags mode bound)
+  leaves_step room (command.Path c) bound = leaves_on_tree _ (stays_path s.limits s.tree state.tree s.session state.session c bound)
+  leaves_step room (command.Open path flags mode below) bound = leaves_on_tree _ (stays_open s.limits s.tree state.tree (now_of s) timed false below path flags (permissions_in s mode) (permissions_fit s.limits s.session mode state.session bound))
+  leaves_step room (command.OpenStat path flags mode below) bound = leaves_on_tree _ (stays_open s.limits s.tree state.tree (now_of s) timed true below path flags (permissions_in s mode) (permissions_fit s.limits s.session mode state.session bound))
   leaves_step room (command.Close fd) bound = leaves_on_tree _ (stays_close s.limits s.tree state.tree fd)
   leaves_step room (command.Read fd count) bound = leaves_on_tree _ (stays_read s.limits s.tree state.tree fd count)
   leaves_step room (command.Write fd given) bound = leaves_on_tree _ (stays_write s.limits s.tree state.tree (now_of s) timed fd given)
@@ -193,10 +214,14 @@ module _ (s : State) (state : IsState s) where
   leaves_step room (command.Lseek fd from offset) bound = leaves_on_tree _ (stays_seek s.limits s.tree state.tree fd from offset)
   leaves_step room (command.Ftruncate fd size) bound = leaves_on_tree _ (stays_ftruncate s.limits s.tree state.tree (now_of s) timed fd size)
   leaves_step room (command.Fchmod fd mode) bound = leaves_on_tree _ (stays_fchmod s.limits s.tree state.tree (now_of s) timed fd mode bound)
+  leaves_step room (command.Fchown fd owner group) bound = leaves_on_tree _ (stays_fchown s.limits s.tree state.tree (now_of s) timed fd owner group bound)
+  leaves_step room (command.Futimens fd time) bound = leaves_on_tree _ (stays_futimens s.limits s.tree state.tree (now_of s) timed fd time bound)
   leaves_step room (command.Fstat fd) bound = leaves_on_tree _ (stays_fstat s.limits s.tree state.tree fd)
+  leaves_step room (command.Fattr fd) bound = leaves_on_tree _ (stays_fattr s.limits s.tree state.tree fd)
   leaves_step room (command.Fsync fd) bound = leaves_on_tree _ (stays_fsync s.limits s.tree state.tree fd)
   leaves_step room (command.Extent path offset) bound = leaves_on_tree _ (stays_extent s.limits s.tree state.tree room.stored path offset)
   leaves_step room (command.At seconds nanoseconds) bound = leaves_time seconds nanoseconds bound
+  leaves_step room (command.As owner group) bound = leaves_owner owner group bound
   leaves_step room command.Sync bound = leaves_same reply.Done
   leaves_step room command.Df bound = leaves_same (reply.Space room.blocks room.free room.pledged)
   leaves_step room command.Statfs bound = λ answer new need done. leaves_same _ answer new need done.2

@@ -1,31 +1,36 @@
 -- Each step of a call leaves a tree: the steps, the calls that change nothing, and those on descriptors, bytes and modes.
-use Rattle.std.proofs.Common.{◌≡◌, ◌⊎◌, inl, inr, ℕ, ℤ, pos, ◌+◌, ◌≤◌, ◌<◌, List, [], ◌∷◌, length, drop, Bool, true, false, not, ◌&&◌, ◌||◌, is_some, Option, Some, None, IfSome, refl, sym, ap, subst, ◌∙◌, length-take, length-drop, arith}
+use Rattle.std.proofs.Common.{◌≡◌, ◌⊎◌, inl, inr, ℕ, ℤ, pos, ◌+◌, ◌≤◌, ◌<◌, List, [], ◌∷◌, ◌++◌, length, drop, Bool, true, false, not, ◌&&◌, ◌||◌, is_none, is_some, Option, Some, None, IfSome, refl, sym, ap, subst, ◌∙◌, length-take, length-drop, arith}
 use Rattle.std.specs.Prelude.{◌+ℤ◌, ◌==◌, if◌then◌else◌, nat_abs, nat_le, nat_lt, unwrap_or}
 use Rattle.std.proofs.lemmas.Bool.{cases_lt, cond_both, leb-false, ltb-false}
 use Rattle.model.specs.declared.limits.Limits.{Limits}
-use Rattle.model.specs.declared.limits.TheConstants.{MODE_BITS, GREATEST_OFFSET, OPEN_FILES, ENTRIES_TOLD}
+use Rattle.model.specs.declared.limits.TheConstants.{MODE_BITS, MOST_NANOSECONDS, GREATEST_OFFSET, OPEN_FILES, ENTRIES_TOLD}
 use Rattle.model.specs.declared.errno.Errno.{Errno}
 use Rattle.model.specs.declared.errno.Errno.TheVariants.{ENOENT, ENOTDIR, EISDIR, EINVAL, ELOOP, EBADF, DIRFULL, NONUMBER, EFBIG, EOVERFLOW, ESTALE}
 use Rattle.model.specs.declared.reply.Reply.{Reply}
 use Rattle.model.specs.declared.reply.Reply.TheVariants as reply
+use Rattle.model.specs.declared.attributes.Attributes.{Attributes}
+use Rattle.model.specs.declared.command.NewTime.{NewTime}
+use Rattle.model.specs.declared.command.NewTime.TheVariants.{Omit, Now, At}
 use Rattle.model.specs.declared.command.Settings.{Settings}
 use Rattle.model.specs.declared.command.Whence.{Whence}
 use Rattle.model.specs.Limits.{AreLimits}
-use Rattle.model.specs.Paths.{Name, Path, Tests, first_refusal, text_tests_then, is_empty, is_number_alone, parts_behind, start_number, starts_at_number}
+use Rattle.model.specs.Paths.{Name, Path, Tests, first_refusal, text_tests, text_tests_then, is_empty, is_number_alone, parts_behind, start_number, starts_at_number}
 use Rattle.model.specs.Trees.{Tree, Object, directory, symlink, file, Description, HasNumber, HasPath, StandsAtPath, IsOpen, IsUsed, IsTree, number_of_object}
 use Rattle.model.specs.Touches.{Touches, touches_object}
 use Rattle.model.specs.declared.attributes.Touch.TheVariants.{Data, Status}
 use Rattle.model.specs.declared.time.Time.{Time}
-use Rattle.model.specs.Attributes.{KeepsTime}
-use Rattle.model.specs.Edits.{contents, marked, resized, written, read_at, with_mode, with_bytes, with_descriptor}
+use Rattle.model.specs.Attributes.{FitAttributes, IsTime, KeepsTime, set_modified, set_owners}
+use Rattle.model.specs.Edits.{attributes_at, changing_attributes, contents, marked, resized, written, read_at, with_mode, with_bytes, with_descriptor}
 use Rattle.model.specs.Resolution.{Resolution, named, missing, refused, resolve, resolve_within}
 use Rattle.model.specs.Room.{Need}
 use Rattle.model.specs.Outcomes.{Outcome, answers, refuses, changes, changes_swept, tested, either, leads, leads_from, leads_to, goes_along, goes_to, with_number, IsListing, with_names, with_place, IsFresh, at_number, with_fresh, HasLinks, with_links, described}
 use Rattle.model.specs.Reading as reading
 use Rattle.model.specs.Changing as changing
 use Rattle.model.specs.Descriptors as descriptors
-use Rattle.model.proofs.LeadLemmas.{AllPass, all_passed, IsReached, Misses, AnswersWell, reached_well}
-use Rattle.model.proofs.LooseLemmas.{IsLooseTree, swept_is_tree, closed_is_loose, bytes_keep, mode_keeps, held_is_tree, used_file}
+use Rattle.model.specs.Laws.{AreOwners, IsNewTime}
+use Rattle.model.proofs.AttributeLaws.{modified_fit, owners_fit}
+use Rattle.model.proofs.LeadLemmas.{AllPass, all_passed, passed_both, IsReached, Misses, AnswersWell, reached_well}
+use Rattle.model.proofs.LooseLemmas.{IsLooseTree, swept_is_tree, closed_is_loose, attributes_fit, attributes_keep, bytes_keep, mode_keeps, held_is_tree, used_file}
 use Rattle.model.proofs.TreeMarkLemmas.{marked_is_tree, marked_objects, marked_descriptors}
 use Rattle.model.proofs.OptionLaws.{none_some, some_same}
 use Rattle.model.proofs.EditLaws.{length-resized, written_short}
@@ -161,6 +166,18 @@ module _ (limits : Limits) (t : Tree) (tree : IsTree limits t) where
       (λ r reached. stays_leads_to r there (reached_well limits t tree more follow path e r reached) (λ p o is at_p. leaves p o pass (p, at_p, refl)))
       (λ o alone has. leaves [] o pass has))
 
+  -- and one beside whose tests are others, before and behind
+  stays_among : (before behind : Tests) (follow : Bool) (path : List ℕ) (there : Path → Object → Outcome) → ((p : Path) (o : Object) → AllPass before → AllPass behind → HasNumber t (number_of_object o) o → LeavesTree limits (there p o)) → LeavesTree limits (tested t (before ++ text_tests limits path ++ behind) (goes_to t follow path there))
+  stays_among before behind follow path there leaves =
+      stays_tested (before ++ text_tests limits path ++ behind) _ (λ e.
+      let both = passed_both (before ++ text_tests limits path) behind e in
+      let first = passed_both before (text_tests limits path) both.0 in
+      let passed = all_passed before first.0 in
+      let pass = all_passed behind both.1 in
+      stays_along follow path there (λ p name. refuses t ENOENT)
+      (λ r reached. stays_leads_to r there (reached_well limits t tree [] follow path first.1 r reached) (λ p o is at_p. leaves p o passed pass (p, at_p, refl)))
+      (λ o alone has. leaves [] o passed pass has))
+
   -- the calls that change nothing
 
   stays_tells : (o : Object) → LeavesTree limits (reading.tells_stat t o)
@@ -168,6 +185,12 @@ module _ (limits : Limits) (t : Tree) (tree : IsTree limits t) where
 
   pub stays_stat : (follow : Bool) (path : List ℕ) → LeavesTree limits (reading.stats limits t follow path)
   stays_stat follow path = stays_at [] follow path _ (λ p o pass at_p. stays_tells o)
+
+  stays_attributes : (o : Object) → LeavesTree limits (reading.tells_attributes t o)
+  stays_attributes o = stays_links o _ (λ links has. stays_same _)
+
+  pub stays_attr : (follow : Bool) (path : List ℕ) → LeavesTree limits (reading.attributes limits t follow path)
+  stays_attr follow path = stays_among (reading.attribute_tests limits) [] follow path _ (λ p o kept pass at_p. stays_attributes o)
 
   pub stays_list : (path : List ℕ) → LeavesTree limits (reading.lists limits t path)
   stays_list path =
@@ -252,6 +275,9 @@ module _ (limits : Limits) (t : Tree) (tree : IsTree limits t) where
       let place : ℤ = pos (descriptors.base_of t f from) +ℤ offset in
       stays_passed ((reading.is_negative place, EINVAL) ∷ (nat_lt GREATEST_OFFSET (nat_abs place), EOVERFLOW) ∷ []) _ (λ pass.
       stays_changed _ (descriptors.with_offset fd f (nat_abs place) t) _ (offset_moves fd f (nat_abs place) at_fd (ltb-false GREATEST_OFFSET (nat_abs place) pass.1.0))))
+
+  pub stays_fattr : (fd : ℕ) → LeavesTree limits (descriptors.attributes_open limits t fd)
+  stays_fattr fd = stays_passed (reading.attribute_tests limits) _ (λ pass. stays_described fd _ (λ f at_fd. stays_attributes (file f.number)))
 
   pub stays_fstat : (fd : ℕ) → LeavesTree limits (descriptors.stats_open t fd)
   stays_fstat fd = stays_described fd _ (λ f at_fd. stays_tells (file f.number))
@@ -356,3 +382,56 @@ module _ (limits : Limits) (t : Tree) (tree : IsTree limits t) where
 
     pub stays_fchmod : (fd mode : ℕ) → mode ≤ MODE_BITS → LeavesTree limits (descriptors.changes_open_mode now t fd mode)
     stays_fchmod fd mode few = stays_described fd _ (λ f at_fd. stays_changed _ _ _ (mode_is f.number mode t tree (inr (fd, f, at_fd, refl)) few))
+
+    -- owners and times, which only a file system with attributes keeps
+
+    changed_attributes : (n : ℕ) (f : Attributes → Attributes) → IsUsed t n → FitAttributes limits.has_attributes (f (attributes_at t n)) → LeavesTree limits (changing.changes_attributes now t n f)
+    changed_attributes n f used fit =
+        stays_changed _ _ _ (touched_is_tree (touches_object Status n) (changing_attributes n f t) (attributes_keep limits t n (f (attributes_at t n)) tree used fit))
+
+    has_them : AllPass (reading.attribute_tests limits) → limits.has_attributes ≡ true
+    has_them pass = by limits.has_attributes pass.0
+      where
+        by : (b : Bool) → not b ≡ false → b ≡ true
+        by true e = refl
+        by false e = sym e
+
+    used_there : (o : Object) → HasNumber t (number_of_object o) o → IsUsed t (number_of_object o)
+    used_there o has = inl (object_stands o (number_of_object o) refl has)
+
+    stays_owners : (n : ℕ) (owner group : Option ℕ) → limits.has_attributes ≡ true → IsUsed t n → AreOwners owner group → LeavesTree limits (changing.gives_owners now t n owner group)
+    stays_owners n owner group has used few =
+        stays_either (is_none owner && is_none group) _ _ (λ e. stays_same _)
+        (λ e. changed_attributes n (set_owners owner group) used (owners_fit limits.has_attributes owner group (attributes_at t n) has few (attributes_fit limits t n tree used)))
+
+    stays_time : (n : ℕ) (time : Option Time) → limits.has_attributes ≡ true → IsUsed t n → IfSome time IsTime → LeavesTree limits (changing.gives_time now t n time)
+    stays_time n None has used is = stays_same _
+    stays_time n (Some time) has used is =
+        changed_attributes n (set_modified time) used (modified_fit limits.has_attributes time (attributes_at t n) has is (attributes_fit limits t n tree used))
+
+    kept_is_time : (time : Option Time) → KeepsTime limits.has_attributes time → IfSome time IsTime
+    kept_is_time None keeps = tt
+    kept_is_time (Some time) keeps = keeps.1
+
+    meant_is_time : (time : NewTime) → IsNewTime time → AllPass (changing.time_tests time) → IfSome (changing.meant_time now time) IsTime
+    meant_is_time Omit bound pass = tt
+    meant_is_time Now bound pass = kept_is_time now timed
+    meant_is_time (At seconds nanoseconds) bound pass = record { seconds = bound; nanoseconds = ltb-false MOST_NANOSECONDS nanoseconds pass.0 }
+
+    pub stays_chown : (follow : Bool) (path : List ℕ) (owner group : Option ℕ) → AreOwners owner group → LeavesTree limits (changing.changes_owners limits now t follow path owner group)
+    stays_chown follow path owner group few =
+        stays_among (reading.attribute_tests limits) [] follow path _ (λ p o kept pass has. stays_owners (number_of_object o) owner group (has_them kept) (used_there o has) few)
+
+    pub stays_utimens : (follow : Bool) (path : List ℕ) (time : NewTime) → IsNewTime time → LeavesTree limits (changing.changes_times limits now t follow path time)
+    stays_utimens follow path time bound =
+        stays_among (reading.attribute_tests limits) (changing.time_tests time) follow path _ (λ p o kept pass has.
+        stays_time (number_of_object o) (changing.meant_time now time) (has_them kept) (used_there o has) (meant_is_time time bound pass))
+
+    pub stays_fchown : (fd : ℕ) (owner group : Option ℕ) → AreOwners owner group → LeavesTree limits (descriptors.changes_open_owners limits now t fd owner group)
+    stays_fchown fd owner group few =
+        stays_passed (reading.attribute_tests limits) _ (λ kept. stays_described fd _ (λ f at_fd. stays_owners f.number owner group (has_them kept) (inr (fd, f, at_fd, refl)) few))
+
+    pub stays_futimens : (fd : ℕ) (time : NewTime) → IsNewTime time → LeavesTree limits (descriptors.changes_open_times limits now t fd time)
+    stays_futimens fd time bound =
+        stays_passed (reading.attribute_tests limits) _ (λ kept. stays_described fd _ (λ f at_fd. stays_passed (changing.time_tests time) _ (λ pass.
+        stays_time f.number (changing.meant_time now time) (has_them kept) (inr (fd, f, at_fd, refl)) (meant_is_time time bound pass))))

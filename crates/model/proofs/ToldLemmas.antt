@@ -14,11 +14,11 @@ use Rattle.std.proofs.lemmas.Cmp.{nat_list_eq_equiv}
 use Rattle.std.proofs.lemmas.Map.Views.{list_any-from_Contains, Contains-from_any}
 use Rattle.model.specs.declared.limits.Limits.{Limits}
 use Rattle.model.specs.declared.attributes.Attributes.{Attributes}
-use Rattle.model.specs.declared.limits.TheConstants.{LINK_MODE}
+use Rattle.model.specs.declared.attributes.Permissions.{Permissions}
 use Rattle.std.specs.Option.{option_map}
 use Rattle.model.specs.declared.attributes.Touch.{Touch}
 use Rattle.model.specs.declared.time.Time.{Time}
-use Rattle.model.specs.Attributes.{new_attributes}
+use Rattle.model.specs.Attributes.{mode_alone, new_attributes}
 use Rattle.model.specs.Touches.{touched_at}
 use Rattle.model.specs.Paths.{Name, Path, path_eq, behind}
 use Rattle.model.specs.Trees.{Tree, Object, directory, symlink, file, number_of_object, Description, HasPath, IsUsed, root_alone}
@@ -48,7 +48,7 @@ pub told_root : (mode : ℕ) → Told (root_alone mode) ([] ∷ []) [] (3 ∷ []
 told_root mode = record {
   objects = λ p. cond_both (path_eq p []) (Some (directory 3)) None (λ (r : Option Object). IsSome r → holds p ([] ∷ []) ≡ true) (λ e some. or_left (path_eq p []) false e) (λ e some. nothing_there some);
   descriptors = λ d some. nothing_there some;
-  maps = λ n out. (refl, cond_both (n == 3) (Some (new_attributes mode)) None (λ (r : Option Attributes). r ≡ None) (λ e. absurd (false≢true (sym (or_parts (n == 3) false out).0 ∙ e))) (λ e. refl));
+  maps = λ n out. (refl, cond_both (n == 3) (Some (new_attributes (mode_alone mode))) None (λ (r : Option Attributes). r ≡ None) (λ e. absurd (false≢true (sym (or_parts (n == 3) false out).0 ∙ e))) (λ e. refl));
 }
 
 module _ {t : Tree} {paths : List Path} {open_ones numbers : List ℕ} (told : Told t paths open_ones numbers) where
@@ -100,14 +100,14 @@ told_touched {t} told time touch n = record {
 
 -- a new directory, and a new file of no bytes
 module _ {t : Tree} {paths : List Path} {open_ones numbers : List ℕ} (told : Told t paths open_ones numbers) where
-  pub told_directory : (p : Path) (n mode : ℕ) → Told (with_directory p n mode t) (p ∷ paths) open_ones (n ∷ numbers)
-  told_directory p n mode = told_object (told_attributes told n (new_attributes mode)) p (Some (directory n))
+  pub told_directory : (p : Path) (n : ℕ) (permissions : Permissions) → Told (with_directory p n permissions t) (p ∷ paths) open_ones (n ∷ numbers)
+  told_directory p n permissions = told_object (told_attributes told n (new_attributes permissions)) p (Some (directory n))
 
-  pub told_file : (p : Path) (n mode : ℕ) → Told (with_file p n mode t) (p ∷ paths) open_ones (n ∷ n ∷ numbers)
-  told_file p n mode = told_object (told_attributes (told_bytes told n []) n (new_attributes mode)) p (Some (file n))
+  pub told_file : (p : Path) (n : ℕ) (permissions : Permissions) → Told (with_file p n permissions t) (p ∷ paths) open_ones (n ∷ n ∷ numbers)
+  told_file p n permissions = told_object (told_attributes (told_bytes told n []) n (new_attributes permissions)) p (Some (file n))
 
-  pub told_symlink : (p : Path) (n : ℕ) (text : List ℕ) → Told (with_symlink p n text t) (p ∷ paths) open_ones (n ∷ numbers)
-  told_symlink p n text = told_object (told_attributes told n (new_attributes LINK_MODE)) p (Some (symlink n text))
+  pub told_symlink : (p : Path) (n : ℕ) (permissions : Permissions) (text : List ℕ) → Told (with_symlink p n permissions text t) (p ∷ paths) open_ones (n ∷ numbers)
+  told_symlink p n permissions text = told_object (told_attributes told n (new_attributes permissions)) p (Some (symlink n text))
 
 -- a test that holds of a path holds of one of a list that has it
 found_among : (test : Path → Bool) (p : Path) (paths : List Path) → holds p paths ≡ true → test p ≡ true → list_any test paths ≡ true

@@ -18,7 +18,7 @@ use Rattle.model.proofs.LooseLemmas.{IsLooseTree}
 
 -- the time of a call is one that a change may have
 pub time_kept : (limits : Limits) (time : Time) → IsTime time → KeepsTime limits.has_attributes (kept_time limits time)
-time_kept limits time is = cond_both limits.has_attributes (Some time) None (KeepsTime limits.has_attributes) (λ e. (e, is)) (λ e. tt)
+time_kept limits time is = cond_both limits.has_attributes (Some time) None (KeepsTime limits.has_attributes) (λ e. (e, is)) (λ e. e)
 
 -- what each touch keeps, all of a change keep
 pub marks_hold : (P : Tree → Type 0) (now : Option Time) (touches : Touches) (t : Tree)

@@ -6,9 +6,10 @@ use Rattle.model.specs.Trees as trees
 use Rattle.model.specs.Touches.{touches_entry, touches_move, touches_object}
 use Rattle.model.specs.declared.attributes.Touch.TheVariants.{Data, Status}
 use Rattle.model.specs.declared.time.Time.{Time}
-use Rattle.model.specs.Edits.{contents, resized, written, with_object, without_object, with_mode, with_bytes, with_directory, with_file, with_symlink, moved, marked, number_at_path, IsSwept}
+use Rattle.model.specs.Attributes.{set_given}
+use Rattle.model.specs.Edits.{changing_attributes, contents, resized, written, with_object, without_object, with_mode, with_bytes, with_directory, with_file, with_symlink, moved, marked, number_at_path, IsSwept}
 use Rattle.model.specs.Volumes.{Volume}
-use Rattle.model.specs.Records.{Made, file, directory, symbolic_link, Change, Edit, create, link, remove_name, rename, write, truncate, change_mode, set_file}
+use Rattle.model.specs.Records.{Made, file, directory, symbolic_link, Change, Edit, create, link, remove_name, rename, write, truncate, change_attributes, set_file}
 
 -- the directory of this number stands at the path
 abbrev pub IsAt : Tree → Path → ℕ → Type 0
@@ -16,9 +17,9 @@ IsAt t p n = t.objects p ≡ Some (trees.directory n)
 
 -- the tree with what a record makes at a path, under this number
 abbrev pub with_made : Made → Path → ℕ → Tree → Tree
-with_made (file mode) p n = with_file p n mode
-with_made (directory mode) p n = with_directory p n mode
-with_made (symbolic_link text) p n = with_symlink p n text
+with_made (file permissions) p n = with_file p n permissions
+with_made (directory permissions) p n = with_directory p n permissions
+with_made (symbolic_link permissions text) p n = with_symlink p n permissions text
 
 -- a record leads from one tree to the other, told by paths and in the words of the calls
 abbrev pub ChangesBy : Option Time → Edit → Tree → Tree → Type 0
@@ -40,7 +41,8 @@ ChangesBy time (write number offset bytes) old new =
     new ≡ marked time (touches_object Data number) (with_bytes number (written offset bytes (contents old number)) old)
 ChangesBy time (truncate number size) old new =
     new ≡ marked time (touches_object Data number) (with_bytes number (resized size (contents old number)) old)
-ChangesBy time (change_mode number mode) old new = new ≡ marked time (touches_object Status number) (with_mode number mode old)
+ChangesBy time (change_attributes number permissions modified) old new =
+    new ≡ marked time (touches_object Status number) (changing_attributes number (set_given permissions modified) old)
 ChangesBy time (set_file number mode size) old new =
     new ≡ marked time (touches_object Data number) (with_mode number mode (with_bytes number (resized size (contents old number)) old))
 

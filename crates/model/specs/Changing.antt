@@ -4,12 +4,18 @@
 use Rattle.std.specs.Prelude.{ℕ, ℤ, nat_abs, ◌==◌, nat_le, nat_lt, not, ◌&&◌, ◌||◌, if◌then◌else◌, Bool, true, false, List, [], ◌∷◌, ◌++◌, length, Option, Some, None, is_none, is_some}
 use Rattle.std.specs.List.{list_any}
 use Rattle.model.specs.declared.errno.Errno.TheVariants.{ENOENT, ENOTDIR, EISDIR, EEXIST, EINVAL, ENAMETOOLONG, EPERM, EBUSY, ENOTEMPTY, EFBIG, EMLINK}
+use Rattle.model.specs.declared.attributes.Attributes.{Attributes}
+use Rattle.model.specs.declared.attributes.Permissions.{Permissions}
+use Rattle.model.specs.declared.command.NewTime.{NewTime}
+use Rattle.model.specs.declared.command.NewTime.TheVariants.{Omit, Now, At}
 use Rattle.model.specs.declared.command.Settings.{Settings}
 use Rattle.model.specs.declared.reply.Reply.TheVariants.{Done}
 use Rattle.model.specs.declared.limits.Limits.{Limits}
+use Rattle.model.specs.declared.limits.TheConstants.{MOST_NANOSECONDS}
+use Rattle.model.specs.Attributes.{set_modified, set_owners}
 use Rattle.model.specs.Paths.{Path, Tests, text_tests, text_tests_then, new_text_tests, is_empty, is_root_text, begins_with, path_eq}
-use Rattle.model.specs.Trees.{Tree, Object, directory, symlink, file, is_directory}
-use Rattle.model.specs.Edits.{contents, resized, with_object, without_object, with_mode, with_bytes, with_directory, with_symlink, marked, moved, number_at_path}
+use Rattle.model.specs.Trees.{Tree, Object, directory, symlink, file, is_directory, number_of_object}
+use Rattle.model.specs.Edits.{changing_attributes, contents, resized, with_object, without_object, with_mode, with_bytes, with_directory, with_symlink, marked, moved, number_at_path}
 use Rattle.model.specs.Touches.{touches_entry, touches_move, touches_object}
 use Rattle.model.specs.declared.attributes.Touch.{Touch}
 use Rattle.model.specs.declared.attributes.Touch.TheVariants.{Data, Status}
@@ -17,7 +23,7 @@ use Rattle.model.specs.declared.time.Time.{Time}
 use Rattle.model.specs.Resolution.{parent}
 use Rattle.model.specs.Room.{Need, nothing, logs, adds_name, removes_name, changes_size, changes_bits}
 use Rattle.model.specs.Outcomes.{Outcome, answers, refuses, changes, changes_swept, tested, either, goes_along, goes_to, with_names, with_place, with_fresh, with_links}
-use Rattle.model.specs.Reading.{is_negative}
+use Rattle.model.specs.Reading.{attribute_tests, is_negative}
 
 -- the tree in which a path has got an object, with both touched at this time: the object and its
 -- parent; `touch` says what of the object
@@ -33,19 +39,19 @@ creates limits now t path make =
     (λ p name. with_place limits t p (with_fresh limits t (λ n.
     changes Done (entered now Data n p t (make (p ++ name ∷ []) n t)) (logs adds_name)))))
 
--- `mkdir`: an empty directory of this mode is made at a name that nothing has
-abbrev pub makes_directory : Limits → Option Time → Tree → List ℕ → ℕ → Outcome
-makes_directory limits now t path mode = creates limits now t path (λ p n. with_directory p n mode)
+-- `mkdir`: an empty directory of these permissions is made at a name that nothing has
+abbrev pub makes_directory : Limits → Option Time → Tree → List ℕ → Permissions → Outcome
+makes_directory limits now t path permissions = creates limits now t path (λ p n. with_directory p n permissions)
 
 -- the tests of a link's text: it isn't empty, has no zero byte, and is no longer than a path may be
 abbrev pub link_text_tests : Limits → List ℕ → Tests
 link_text_tests limits text =
     (is_empty text, ENOENT) ∷ (list_any (λ byte. byte == 0) text, EINVAL) ∷ (nat_lt limits.path_bytes (length text), ENAMETOOLONG) ∷ []
 
--- `symlink`: a link of this text is made at a name that nothing has
-abbrev pub makes_symlink : Limits → Option Time → Tree → List ℕ → List ℕ → Outcome
-makes_symlink limits now t text path =
-    tested t (link_text_tests limits text) (creates limits now t path (λ p n. with_symlink p n text))
+-- `symlink`: a link of this text and these permissions is made at a name that nothing has
+abbrev pub makes_symlink : Limits → Option Time → Tree → List ℕ → List ℕ → Permissions → Outcome
+makes_symlink limits now t text path permissions =
+    tested t (link_text_tests limits text) (creates limits now t path (λ p n. with_symlink p n permissions text))
 
 -- a name is taken away, and with the last one what it named, but for a file that is open
 abbrev pub removes : Option Time → Tree → Path → Outcome
@@ -134,6 +140,45 @@ changes_mode limits now t path mode =
       | file n ↦ changes Done (with_changed_mode now n mode t) (logs changes_bits)
       | symlink n text ↦ λ _ _ _. ⊥  -- a final link is followed
     ]))
+
+-- an object's attributes are changed, and so its status
+abbrev pub changes_attributes : Option Time → Tree → ℕ → (Attributes → Attributes) → Outcome
+changes_attributes now t n f = changes Done (marked now (touches_object Status n) (changing_attributes n f t)) (logs changes_bits)
+
+-- an object gets an owner and a group, each where it is given; where neither is, nothing changes
+abbrev pub gives_owners : Option Time → Tree → ℕ → Option ℕ → Option ℕ → Outcome
+gives_owners now t n owner group =
+    either (is_none owner && is_none group) (answers t Done) (changes_attributes now t n (set_owners owner group))
+
+-- `chown` and `lchown`: the object that a path leads to gets an owner and a group, where `chown`
+-- follows a last link
+abbrev pub changes_owners : Limits → Option Time → Tree → Bool → List ℕ → Option ℕ → Option ℕ → Outcome
+changes_owners limits now t follow path owner group =
+    tested t (attribute_tests limits ++ text_tests limits path)
+    (goes_to t follow path (λ p o. gives_owners now t (number_of_object o) owner group))
+
+-- the tests of a time: its nanoseconds are below a second
+abbrev pub time_tests : NewTime → Tests
+time_tests (At seconds nanoseconds) = (nat_lt MOST_NANOSECONDS nanoseconds, EINVAL) ∷ []
+time_tests other = []
+
+-- the time that is meant, if there is one
+abbrev pub meant_time : Option Time → NewTime → Option Time
+meant_time now Omit = None
+meant_time now Now = now
+meant_time now (At seconds nanoseconds) = Some (record { seconds = seconds; nanoseconds = nanoseconds })
+
+-- an object's data gets a time, where one is meant
+abbrev pub gives_time : Option Time → Tree → ℕ → Option Time → Outcome
+gives_time now t n None = answers t Done
+gives_time now t n (Some time) = changes_attributes now t n (set_modified time)
+
+-- `utimens` and `lutimens`: the data of the object that a path leads to gets a time, where `utimens`
+-- follows a last link
+abbrev pub changes_times : Limits → Option Time → Tree → Bool → List ℕ → NewTime → Outcome
+changes_times limits now t follow path time =
+    tested t (attribute_tests limits ++ text_tests limits path ++ time_tests time)
+    (goes_to t follow path (λ p o. gives_time now t (number_of_object o) (meant_time now time)))
 
 -- a size changes nothing of a file: it has the size, and no times are kept, which would change
 abbrev pub is_idle_size : Option Time → ℕ → ℕ → Tree → Bool

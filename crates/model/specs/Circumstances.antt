@@ -27,12 +27,13 @@ clear room = record { read_failed = false; write_failed = false; memory_refused 
 abbrev pub IsDone : Circumstances → State → Command → Reply → State → Type 0
 IsDone c s command reply new = (need : Need) × WouldStep c.room s command reply new need
 
--- the command takes no memory and calls no device, so it is always done: `lseek`, `fsync`, `at`, `df`,
--- `statfs`, and `close` but of a file that has no name
+-- the command takes no memory and calls no device, so it is always done: `lseek`, `fsync`, `at`, `as`,
+-- `df`, `statfs`, and `close` but of a file that has no name
 abbrev pub IsSure : State → Command → Type 0
 IsSure s (command.Lseek fd whence offset) = Unit {0}
 IsSure s (command.Fsync fd) = Unit {0}
 IsSure s (command.At seconds nanoseconds) = Unit {0}
+IsSure s (command.As owner group) = Unit {0}
 IsSure s command.Df = Unit {0}
 IsSure s command.Statfs = Unit {0}
 IsSure s (command.Close fd) = elim (s.tree.descriptors fd) [ Some f ↦ HasPath s.tree f.number | None ↦ Unit {0} ]

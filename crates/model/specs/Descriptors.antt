@@ -1,7 +1,9 @@
 -- The calls on descriptors (POSIX.1-2017, open(), close(), read(), write(), lseek(), ftruncate(),
--- fchmod(), fstat(), fsync()), and what a write does to a file. `now` is the time of the call, where
+-- fchmod(), fchown(), futimens(), fstat(), fsync()), and what a write does to a file. `now` is the time of the call, where
 -- the file system keeps times.
 use Rattle.std.specs.Prelude.{ℕ, ℤ, pos, nat_abs, ◌+ℤ◌, ◌+◌, min, nat_lt, not, ◌&&◌, ◌||◌, if◌then◌else◌, Bool, true, false, Option, List, [], ◌∷◌, ◌++◌, length, Some, None}
+use Rattle.model.specs.declared.attributes.Permissions.{Permissions}
+use Rattle.model.specs.declared.command.NewTime.{NewTime}
 use Rattle.model.specs.declared.limits.TheConstants.{OPEN_FILES, GREATEST_OFFSET}
 use Rattle.model.specs.declared.errno.Errno.TheVariants.{ENOENT, EISDIR, EEXIST, EINVAL, EBADF, EMFILE, EFBIG, EOVERFLOW}
 use Rattle.model.specs.declared.reply.Reply.TheVariants as reply
@@ -20,8 +22,8 @@ use Rattle.model.specs.declared.time.Time.{Time}
 use Rattle.model.specs.Room.{Need, nothing, logs, adds_name, puts_bytes, changes_bits}
 use Rattle.model.specs.Outcomes.{Outcome, answers, refuses, changes, changes_swept, tested, either, goes_along, goes_to, with_place, with_fresh, with_links, lowest_free, described}
 use Rattle.model.specs.Stats.{stat_of}
-use Rattle.model.specs.Reading.{is_negative, is_too_many, tells_stat}
-use Rattle.model.specs.Changing.{entered, with_changed_mode, truncated_to, need_of_truncate, truncates_file, size_tests}
+use Rattle.model.specs.Reading.{attribute_tests, is_negative, is_too_many, tells_attributes, tells_stat}
+use Rattle.model.specs.Changing.{entered, gives_owners, gives_time, meant_time, time_tests, with_changed_mode, truncated_to, need_of_truncate, truncates_file, size_tests}
 
 -- a file opened so may be read
 abbrev pub is_reading : Access → Bool
@@ -62,11 +64,11 @@ opens_object tells now t o flags fd =
     ])
 
 -- `open` where nothing stands: a file is made and opened where the flags say so
-abbrev pub opens_new : Bool → Limits → Option Time → Tree → Path → Name → Flags → ℕ → ℕ → Outcome
-opens_new tells limits now t p name flags mode fd =
+abbrev pub opens_new : Bool → Limits → Option Time → Tree → Path → Name → Flags → Permissions → ℕ → Outcome
+opens_new tells limits now t p name flags permissions fd =
     tested t ((not flags.creates, ENOENT) ∷ [])
     (with_place limits t p (with_fresh limits t (λ n.
-    opens_file tells n flags fd (entered now Data n p t (with_file (p ++ name ∷ []) n mode t)) (logs adds_name))))
+    opens_file tells n flags fd (entered now Data n p t (with_file (p ++ name ∷ []) n permissions t)) (logs adds_name))))
 
 -- the tests of the flags: no exclusive without create, and no truncating without writing
 abbrev pub open_tests : Flags → Tests
@@ -74,13 +76,13 @@ open_tests flags = (flags.exclusive && not flags.creates, EINVAL) ∷ (flags.tru
 
 -- `open` and `openstat`: a file that is there, or a new one, gets the lowest free descriptor, which
 -- is below a number
-abbrev pub opens : Bool → ℕ → Limits → Option Time → Tree → List ℕ → Flags → ℕ → Outcome
-opens tells below limits now t path flags mode =
+abbrev pub opens : Bool → ℕ → Limits → Option Time → Tree → List ℕ → Flags → Permissions → Outcome
+opens tells below limits now t path flags permissions =
     tested t (text_tests_then limits (open_tests flags) path) (elim (lowest_free t.descriptors (min below OPEN_FILES)) [
       | None ↦ refuses t EMFILE
       | Some fd ↦ goes_along t (not (flags.creates && flags.exclusive)) path
           (λ p o. opens_object tells now t o flags fd)
-          (λ p name. opens_new tells limits now t p name flags mode fd)
+          (λ p name. opens_new tells limits now t p name flags permissions fd)
     ])
 
 -- `close`: the descriptor is free, and a file with no name and no other descriptor is gone
@@ -155,9 +157,24 @@ truncates_open limits now t fd size = described t fd (λ f. tested t ((not f.wri
 abbrev pub changes_open_mode : Option Time → Tree → ℕ → ℕ → Outcome
 changes_open_mode now t fd mode = described t fd (λ f. changes reply.Done (with_changed_mode now f.number mode t) (logs changes_bits))
 
+-- `fchown`: the file of a descriptor gets an owner and a group, whatever the descriptor is for
+abbrev pub changes_open_owners : Limits → Option Time → Tree → ℕ → Option ℕ → Option ℕ → Outcome
+changes_open_owners limits now t fd owner group =
+    tested t (attribute_tests limits) (described t fd (λ f. gives_owners now t f.number owner group))
+
+-- `futimens`: the data of a descriptor's file gets a time, whatever the descriptor is for
+abbrev pub changes_open_times : Limits → Option Time → Tree → ℕ → NewTime → Outcome
+changes_open_times limits now t fd time =
+    tested t (attribute_tests limits)
+    (described t fd (λ f. tested t (time_tests time) (gives_time now t f.number (meant_time now time))))
+
 -- `fstat`: what `stat` tells, of the file of a descriptor
 abbrev pub stats_open : Tree → ℕ → Outcome
 stats_open t fd = described t fd (λ f. tells_stat t (file f.number))
+
+-- `fattr`: what `attr` tells, of the file of a descriptor
+abbrev pub attributes_open : Limits → Tree → ℕ → Outcome
+attributes_open limits t fd = tested t (attribute_tests limits) (described t fd (λ f. tells_attributes t (file f.number)))
 
 -- `fsync`: done at once, for every answered call is kept already
 abbrev pub syncs_open : Tree → ℕ → Outcome

@@ -2,7 +2,7 @@
 use Rattle.std.specs.Prelude.{ℕ, ◌≡◌, ◌==◌, ◌+◌, ◌-◌, if◌then◌else◌, List, [], ◌++◌, length, take, drop, replicate, Option, Some, None, unwrap_or}
 use Rattle.std.specs.Option.{option_map}
 use Rattle.model.specs.declared.attributes.Attributes.{Attributes}
-use Rattle.model.specs.declared.limits.TheConstants.{LINK_MODE}
+use Rattle.model.specs.declared.attributes.Permissions.{Permissions}
 use Rattle.model.specs.Attributes.{new_attributes, no_attributes, set_mode}
 use Rattle.model.specs.Touches.{Touches, touched_at}
 use Rattle.model.specs.declared.attributes.Touch.{Touch}
@@ -80,17 +80,17 @@ with_bytes n bytes t = record t { bytes = λ k. if k == n then Some bytes else t
 abbrev pub with_descriptor : ℕ → Option Description → Tree → Tree
 with_descriptor d f t = record t { descriptors = λ k. if k == d then f else t.descriptors k }
 
--- the tree with a new directory at a path, of this number and mode
-abbrev pub with_directory : Path → ℕ → ℕ → Tree → Tree
-with_directory p n mode t = with_object p (directory n) (with_attributes n (new_attributes mode) t)
+-- the tree with a new directory at a path, of this number and these permissions
+abbrev pub with_directory : Path → ℕ → Permissions → Tree → Tree
+with_directory p n permissions t = with_object p (directory n) (with_attributes n (new_attributes permissions) t)
 
--- the tree with a new file of no bytes at a path, of this number and mode
-abbrev pub with_file : Path → ℕ → ℕ → Tree → Tree
-with_file p n mode t = with_object p (file n) (with_attributes n (new_attributes mode) (with_bytes n [] t))
+-- the tree with a new file of no bytes at a path, of this number and these permissions
+abbrev pub with_file : Path → ℕ → Permissions → Tree → Tree
+with_file p n permissions t = with_object p (file n) (with_attributes n (new_attributes permissions) (with_bytes n [] t))
 
--- the tree with a new symbolic link at a path, of this number and text
-abbrev pub with_symlink : Path → ℕ → List ℕ → Tree → Tree
-with_symlink p n text t = with_object p (symlink n text) (with_attributes n (new_attributes LINK_MODE) t)
+-- the tree with a new symbolic link at a path, of this number, these permissions and this text
+abbrev pub with_symlink : Path → ℕ → Permissions → List ℕ → Tree → Tree
+with_symlink p n permissions text t = with_object p (symlink n text) (with_attributes n (new_attributes permissions) t)
 
 -- what a move from p leaves at a path r: below the target what stood below p, below p nothing, and
 -- elsewhere what stood there

@@ -4,13 +4,15 @@ use Rattle.std.specs.Int.{w64}
 use Rattle.std.specs.Prelude.{ℕ, FitsSigned, ◌≡◌, ◌↔◌, ◌≤◌, ◌<◌, Bool, true, false, IsTrue, IsFalse, IsSome, IfSome, All, Contains, List, [], ◌∷◌, ◌++◌, length, slice_get, Option, Some, None}
 use Rattle.model.specs.Entries.{Part, AreTold}
 use Rattle.model.specs.declared.attributes.Attributes.{Attributes}
-use Rattle.model.specs.declared.limits.TheConstants.{LINKS_FOLLOWED, FIRST_NUMBER, MODE_BITS}
+use Rattle.model.specs.declared.limits.TheConstants.{GREATEST_OWNER, LINKS_FOLLOWED, FIRST_NUMBER, MODE_BITS}
 use Rattle.model.specs.declared.errno.Errno.{Errno}
 use Rattle.model.specs.declared.errno.Errno.TheVariants.{ENOSPC, ENOMEM, EIO, DAMAGED, FAILED}
 use Rattle.model.specs.declared.reply.Reply.{Reply}
 use Rattle.model.specs.declared.reply.Reply.TheVariants.{Refused}
 use Rattle.model.specs.declared.command.Command.{Command}
 use Rattle.model.specs.declared.command.Command.TheVariants as command
+use Rattle.model.specs.declared.command.NewTime.{NewTime}
+use Rattle.model.specs.declared.command.NewTime.TheVariants as times
 use Rattle.model.specs.declared.command.PathCall.{PathCall}
 use Rattle.model.specs.declared.command.PathCall.TheVariants as call
 use Rattle.model.specs.declared.limits.Limits.{Limits}
@@ -67,21 +69,35 @@ HasOneOutcome =
     (room : Room) (s : State) (command : Command) (a b : Reply) (t u : State) (m n : Need)
     → WouldStep room s command a t m → WouldStep room s command b u n → (a ≡ b) × (t ≡ u) × (m ≡ n)
 
+-- what the types of an owner and a group hold them to, where they are given
+abbrev pub AreOwners : Option ℕ → Option ℕ → Type 0
+AreOwners owner group = IfSome owner (λ n. n ≤ GREATEST_OWNER) × IfSome group (λ n. n ≤ GREATEST_OWNER)
+
+-- what the types of a time hold it to: seconds have 64 bits
+abbrev pub IsNewTime : NewTime → Type 0
+IsNewTime (times.At seconds nanoseconds) = FitsSigned w64 seconds
+IsNewTime other = Unit {0}
+
 -- what the types of a path call hold it to: a mode has twelve bits
 abbrev pub IsPathCall : PathCall → Type 0
 IsPathCall (call.Mkdir path mode) = mode ≤ MODE_BITS
 IsPathCall (call.Chmod path mode) = mode ≤ MODE_BITS
+IsPathCall (call.Chown path follow owner group) = AreOwners owner group
+IsPathCall (call.Utimens path follow time) = IsNewTime time
 IsPathCall (call.Set path settings) = IfSome settings.mode (λ mode. mode ≤ MODE_BITS)
 IsPathCall c = Unit {0}
 
--- what the types of a command hold it to: a mode has twelve bits, and seconds have 64
+-- what the types of a command hold it to: a mode has twelve bits, an owner 32, and seconds have 64
 abbrev pub IsCommand : Command → Type 0
 IsCommand (command.Path c) = IsPathCall c
 IsCommand (command.Within name c) = IsPathCall c
 IsCommand (command.Open path flags mode below) = mode ≤ MODE_BITS
 IsCommand (command.OpenStat path flags mode below) = mode ≤ MODE_BITS
 IsCommand (command.Fchmod fd mode) = mode ≤ MODE_BITS
+IsCommand (command.Fchown fd owner group) = AreOwners owner group
+IsCommand (command.Futimens fd time) = IsNewTime time
 IsCommand (command.At seconds nanoseconds) = FitsSigned w64 seconds
+IsCommand (command.As owner group) = (owner ≤ GREATEST_OWNER) × (group ≤ GREATEST_OWNER)
 IsCommand c = Unit {0}
 
 -- where a directory is told in parts from the first one on, until a part tells nothing, a name that

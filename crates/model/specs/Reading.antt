@@ -1,13 +1,13 @@
 -- The calls that read by a path (POSIX.1-2017, stat(), readlink(), read()): the reply is a function
 -- of the tree.
-use Rattle.std.specs.Prelude.{ℕ, ℤ, pos, negsuc, nat_abs, true, false, Bool, nat_lt, ◌||◌, ◌==◌, List, [], ◌∷◌, length}
+use Rattle.std.specs.Prelude.{ℕ, ℤ, pos, negsuc, nat_abs, true, false, Bool, nat_lt, not, ◌||◌, ◌==◌, List, [], ◌∷◌, ◌++◌, length}
 use Rattle.model.specs.declared.limits.TheConstants.{ENTRIES_TOLD, TRANSFER_BYTES}
-use Rattle.model.specs.declared.errno.Errno.TheVariants.{ENOTDIR, EISDIR, EINVAL}
+use Rattle.model.specs.declared.errno.Errno.TheVariants.{ENOTDIR, EISDIR, EINVAL, ENOTSUP}
 use Rattle.model.specs.declared.reply.Reply.TheVariants as reply
 use Rattle.model.specs.declared.limits.Limits.{Limits}
-use Rattle.model.specs.Paths.{text_tests, text_tests_then}
-use Rattle.model.specs.Trees.{Tree, Object, directory, symlink, file}
-use Rattle.model.specs.Edits.{contents, read_at}
+use Rattle.model.specs.Paths.{Tests, text_tests, text_tests_then}
+use Rattle.model.specs.Trees.{Tree, Object, directory, symlink, file, number_of_object}
+use Rattle.model.specs.Edits.{attributes_at, contents, read_at}
 use Rattle.model.specs.Holes.{TellsExtent}
 use Rattle.model.specs.declared.reply.Extent.{Extent}
 use Rattle.model.specs.Stats.{stat_of}
@@ -23,6 +23,10 @@ is_negative (negsuc n) = true
 abbrev pub is_too_many : ℕ → Bool
 is_too_many count = nat_lt TRANSFER_BYTES count
 
+-- the test of calls on what a file system keeps only with attributes, before all others
+abbrev pub attribute_tests : Limits → Tests
+attribute_tests limits = (not limits.has_attributes, ENOTSUP) ∷ []
+
 -- the reply is what `stat` tells of an object
 abbrev pub tells_stat : Tree → Object → Outcome
 tells_stat t o = with_links t o (λ links. answers t (reply.Stat (stat_of t o links)))
@@ -31,6 +35,16 @@ tells_stat t o = with_links t o (λ links. answers t (reply.Stat (stat_of t o li
 -- link
 abbrev pub stats : Limits → Tree → Bool → List ℕ → Outcome
 stats limits t follow path = tested t (text_tests limits path) (goes_to t follow path (λ p o. tells_stat t o))
+
+-- the reply is what `stat` tells of an object, and its attributes
+abbrev pub tells_attributes : Tree → Object → Outcome
+tells_attributes t o =
+    with_links t o (λ links. answers t (reply.Attributes (stat_of t o links) (attributes_at t (number_of_object o))))
+
+-- `attr` and `lattr`: what is told of the object that a path leads to, where `attr` follows a last link
+abbrev pub attributes : Limits → Tree → Bool → List ℕ → Outcome
+attributes limits t follow path =
+    tested t (attribute_tests limits ++ text_tests limits path) (goes_to t follow path (λ p o. tells_attributes t o))
 
 -- `readlink`: the text of the link that a path leads to
 abbrev pub reads_link : Limits → Tree → List ℕ → Outcome

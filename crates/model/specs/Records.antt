@@ -1,10 +1,11 @@
 -- What the records of the log do to a volume, and when each applies.
-use Rattle.std.specs.Prelude.{ℕ, zero, suc, ◌≡◌, ◌≢◌, ◌⊎◌, ◌+◌, ◌*◌, ◌≤◌, ◌<◌, IsSome, Bool, true, false, IsTrue, ◌||◌, if◌then◌else◌, List, [], ◌∷◌, length, fold, unwrap_or, Option, Some, None}
+use Rattle.std.specs.Prelude.{ℕ, zero, suc, ◌≡◌, ◌≢◌, ◌⊎◌, ◌+◌, ◌*◌, ◌≤◌, ◌<◌, IsSome, Bool, true, false, IsTrue, if◌then◌else◌, List, [], ◌∷◌, length, fold, unwrap_or, Option, Some, None}
 use Rattle.model.specs.declared.costs.Costs.{Costs}
 use Rattle.model.specs.declared.limits.TheConstants.{FIRST_NUMBER, TRANSFER_BYTES, LINK_MODE, MODE_BITS}
 use Rattle.model.specs.declared.attributes.Attributes.{Attributes}
+use Rattle.model.specs.declared.attributes.Permissions.{Permissions}
 use Rattle.model.specs.declared.limits.Limits.{Limits}
-use Rattle.model.specs.Attributes.{KeepsTime, new_attributes, set_mode}
+use Rattle.model.specs.Attributes.{FitAttributes, KeepsTime, given_attributes, new_attributes, set_given, set_mode}
 use Rattle.model.specs.Touches.{Touches, touched_at, touches_entry, touches_move, touches_object}
 use Rattle.model.specs.declared.attributes.Touch.{Touch}
 use Rattle.model.specs.declared.attributes.Touch.TheVariants.{Data, Status}
@@ -17,9 +18,9 @@ use Rattle.model.specs.Volumes.{Node, directory_node, file_node, link_node, Volu
 
 -- what a record makes, with all that a call gives it
 pub data Made : Type 0 where
-  file : (mode : ℕ) → Made
-  directory : (mode : ℕ) → Made
-  symbolic_link : (text : List ℕ) → Made
+  file : (permissions : Permissions) → Made
+  directory : (permissions : Permissions) → Made
+  symbolic_link : (permissions : Permissions) → (text : List ℕ) → Made
 
 -- what a record of the log does
 pub data Edit : Type 0 where
@@ -29,7 +30,7 @@ pub data Edit : Type 0 where
   rename : (parent : ℕ) → (name : List ℕ) → (new_parent : ℕ) → (new_name : List ℕ) → Edit
   write : (number offset : ℕ) → (bytes : List ℕ) → Edit
   truncate : (number size : ℕ) → Edit
-  change_mode : (number mode : ℕ) → Edit
+  change_attributes : (number : ℕ) → (permissions : Permissions) → (modified : Time) → Edit
   set_file : (number mode size : ℕ) → Edit
 
 -- what a record of the log says: what it does, and when, where the file system keeps times
@@ -42,9 +43,9 @@ stamped time edit = record { time = time; edit = edit }
 
 -- the object that a record makes, with its one name; a file has no bytes and a directory no names
 abbrev pub node_of : Made → Node
-node_of (file mode) = file_node (new_attributes mode) 1 []
-node_of (directory mode) = directory_node (new_attributes mode) (λ x. None)
-node_of (symbolic_link text) = link_node (new_attributes LINK_MODE) text
+node_of (file permissions) = file_node (new_attributes permissions) 1 []
+node_of (directory permissions) = directory_node (new_attributes permissions) (λ x. None)
+node_of (symbolic_link permissions text) = link_node (new_attributes permissions) text
 
 -- an object with its bytes changed, where it is a file
 abbrev pub with_file_bytes : (List ℕ → List ℕ) → Option Node → Option Node
@@ -70,7 +71,11 @@ with_size number size v = with_node number (with_file_bytes (resized size) (v nu
 abbrev pub with_bits : ℕ → ℕ → Volume → Volume
 with_bits number mode v = with_node number (with_node_mode mode (v number)) v
 
--- what a record does to names, bytes and modes
+-- the volume with an object that has other permissions and another time of its data
+abbrev pub with_given : ℕ → Permissions → Time → Volume → Volume
+with_given number permissions modified v = with_node number (with_node_attributes (set_given permissions modified) (v number)) v
+
+-- what a record does to names, bytes and attributes
 abbrev pub edited : Edit → Volume → Volume
 edited (create number parent made name) v = created number parent name (node_of made) v
 edited (link number parent name) v = linked number parent name v
@@ -78,7 +83,7 @@ edited (remove_name parent name) v = unnamed parent name v
 edited (rename parent name new_parent new_name) v = renamed parent name new_parent new_name v
 edited (write number offset bytes) v = with_node number (with_file_bytes (written offset bytes) (v number)) v
 edited (truncate number size) v = with_size number size v
-edited (change_mode number mode) v = with_bits number mode v
+edited (change_attributes number permissions modified) v = with_given number permissions modified v
 edited (set_file number mode size) v = with_bits number mode (with_size number size v)
 
 -- what a record touches
@@ -89,7 +94,7 @@ touches_of (remove_name parent name) v = touches_entry Status (entries v parent 
 touches_of (rename d x k y) v = touches_move (entries v d x) (entries v k y) (Some d) (Some k)
 touches_of (write number offset bytes) v = touches_object Data number
 touches_of (truncate number size) v = touches_object Data number
-touches_of (change_mode number mode) v = touches_object Status number
+touches_of (change_attributes number permissions modified) v = touches_object Status number
 touches_of (set_file number mode size) v = touches_object Data number
 
 -- the volume with an object touched, if a number of one is given
@@ -127,9 +132,10 @@ IsEmpty v n = (x : Name) → entries v n x ≡ None
 
 -- what a record makes keeps to the limits
 abbrev pub IsMade : Limits → Made → Type 0
-IsMade limits (file mode) = mode ≤ MODE_BITS
-IsMade limits (directory mode) = mode ≤ MODE_BITS
-IsMade limits (symbolic_link text) = IsLinkText limits.path_bytes text
+IsMade limits (file permissions) = FitAttributes limits.has_attributes (new_attributes permissions)
+IsMade limits (directory permissions) = FitAttributes limits.has_attributes (new_attributes permissions)
+IsMade limits (symbolic_link permissions text) =
+    FitAttributes limits.has_attributes (new_attributes permissions) × (permissions.mode ≡ LINK_MODE) × IsLinkText limits.path_bytes text
 
 -- a new object may have this number in a replay: nothing has it, or a file that has no name any
 -- more
@@ -177,6 +183,19 @@ pub record CanRename (limits : Limits) (v : Volume) (d : ℕ) (x : Name) (k : �
   pub outside : ¬ IsBelow (entries v) number k
   pub replaces : CanReplace limits v d k y number (entries v k y)
 
+-- an object may get this mode: a file or a directory any, a link only its own, and that where it has
+-- more than a mode
+abbrev pub TakesMode : Bool → Option Node → ℕ → Type 0
+TakesMode has_attributes None mode = ⊥
+TakesMode has_attributes (Some (directory_node attributes names)) mode = Unit {0}
+TakesMode has_attributes (Some (file_node attributes links bytes)) mode = Unit {0}
+TakesMode has_attributes (Some (link_node attributes text)) mode = IsTrue has_attributes × (mode ≡ LINK_MODE)
+
+-- an object may get these permissions and this time of its data
+abbrev pub TakesGiven : Bool → Option Node → Permissions → Time → Type 0
+TakesGiven has_attributes found permissions modified =
+    TakesMode has_attributes found permissions.mode × FitAttributes has_attributes (given_attributes permissions modified)
+
 -- what a record does can be done to a volume within limits: its numbers have the right kinds, its
 -- names can be taken away or put in, and no limit is passed
 abbrev pub CanEdit : Limits → Volume → Edit → Type 0
@@ -187,11 +206,10 @@ CanEdit limits v (rename parent name new_parent new_name) = CanRename limits v p
 CanEdit limits v (write number offset bytes) =
     IsTrue (is_file_node (v number)) × (1 ≤ length bytes) × (length bytes ≤ TRANSFER_BYTES) × (offset + length bytes ≤ limits.file_bytes)
 CanEdit limits v (truncate number size) = IsTrue (is_file_node (v number)) × (size ≤ limits.file_bytes)
-CanEdit limits v (change_mode number mode) =
-    IsTrue (is_file_node (v number) || is_directory_node (v number)) × (mode ≤ MODE_BITS)
+CanEdit limits v (change_attributes number permissions modified) = TakesGiven limits.has_attributes (v number) permissions modified
 CanEdit limits v (set_file number mode size) = IsTrue (is_file_node (v number)) × (mode ≤ MODE_BITS) × (size ≤ limits.file_bytes)
 
--- a record applies to a volume within limits: what it does can be done, and it has a time only where
+-- a record applies to a volume within limits: what it does can be done, and it has a time just where
 -- the file system keeps times
 pub record Applies (limits : Limits) (v : Volume) (change : Change) : Type 0 where
   pub time : KeepsTime limits.has_attributes change.time
@@ -225,7 +243,7 @@ work_by v (remove_name parent name) = removes_name
 work_by v (rename parent name new_parent new_name) = adds_name
 work_by v (write number offset bytes) = puts_bytes (size_before v number) offset (length bytes)
 work_by v (truncate number size) = changes_size (size_before v number) size
-work_by v (change_mode number mode) = changes_bits
+work_by v (change_attributes number permissions modified) = changes_bits
 work_by v (set_file number mode size) = changes_size (size_before v number) size
 
 -- the same of a record

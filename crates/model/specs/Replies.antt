@@ -61,6 +61,11 @@ abbrev pub IsStat : Reply → Type 0
 IsStat (reply.Stat stat) = Unit {0}
 IsStat other = ⊥
 
+-- what stands somewhere, and its attributes
+abbrev pub IsAttributes : Reply → Type 0
+IsAttributes (reply.Attributes stat attributes) = Unit {0}
+IsAttributes other = ⊥
+
 -- what of a file is stored
 abbrev pub IsExtent : Reply → Type 0
 IsExtent (reply.Extent extent) = Unit {0}
@@ -82,6 +87,7 @@ IsAnswerToPath (call.List path) r = IsNames r
 IsAnswerToPath (call.Entries path after count) r = IsEntries r
 IsAnswerToPath (call.Stat path) r = IsStat r
 IsAnswerToPath (call.Lstat path) r = IsStat r
+IsAnswerToPath (call.Attr path follow) r = IsAttributes r
 IsAnswerToPath (call.Readlink path) r = IsTextOf r
 IsAnswerToPath (call.Get path offset count) r = IsData r
 IsAnswerToPath (call.Store path offset bytes) r = IsWritten r
@@ -98,6 +104,7 @@ IsAnswerTo (command.Pread fd offset count) r = IsData r
 IsAnswerTo (command.Pwrite fd offset bytes) r = IsWritten r
 IsAnswerTo (command.Lseek fd whence offset) r = IsOffset r
 IsAnswerTo (command.Fstat fd) r = IsStat r
+IsAnswerTo (command.Fattr fd) r = IsAttributes r
 IsAnswerTo (command.Extent path offset) r = IsExtent r
 IsAnswerTo command.Df r = IsSpace r
 IsAnswerTo command.Statfs r = IsUsage r

@@ -8,7 +8,7 @@ pub data Work : Type 0 where
   removes_name : Work
   puts_bytes : (size offset count : ℕ) → Work  -- so many bytes at an offset, into a file of this size
   changes_size : (size to : ℕ) → Work  -- and a mode with it, perhaps
-  changes_bits : Work  -- of a mode
+  changes_bits : Work  -- of attributes
 
 -- how many blocks of 4,096 bytes so many bytes at an offset touch
 abbrev pub touched : ℕ → ℕ → ℕ

@@ -1,10 +1,11 @@
 -- The state of a file system, and what a mount finds of it.
 use Rattle.std.specs.Prelude.{ℕ, ◌≡◌, ◌≢◌, ◌≤◌, All, AllPairs, length, List, [], Option, None}
 use Rattle.model.specs.declared.limits.TheConstants.{SNAPSHOT_NAME_BYTES}
+use Rattle.model.specs.declared.attributes.Permissions.{Permissions}
 use Rattle.model.specs.declared.limits.Limits.{Limits}
 use Rattle.model.specs.declared.time.Time.{Time}
 use Rattle.model.specs.declared.session.Session.{Session}
-use Rattle.model.specs.Sessions.{IsSession, kept_time, new_session}
+use Rattle.model.specs.Sessions.{IsSession, call_time, new_permissions, new_session}
 use Rattle.model.specs.Paths.{Name}
 use Rattle.model.specs.Trees.{Tree, IsTree, HasPath, root_alone}
 
@@ -48,7 +49,11 @@ empty limits = record { limits = limits; tree = root_alone 0o755; snapshots = []
 
 -- the time of calls in a state, where its file system keeps times
 abbrev pub now_of : State → Option Time
-now_of s = kept_time s.limits s.session.time
+now_of s = call_time s.limits s.session
+
+-- the permissions of an object that a call makes with a mode in a state
+abbrev pub permissions_in : State → ℕ → Permissions
+permissions_in s mode = new_permissions s.limits s.session mode
 
 -- the state with another tree
 abbrev pub with_tree : Tree → State → State

@@ -3,7 +3,7 @@ use Rattle.std.specs.Prelude.{ℕ, ◌≡◌, ◌≢◌, ◌⊎◌, ◌↔◌, �
 use Rattle.model.specs.declared.attributes.Attributes.{Attributes}
 use Rattle.model.specs.declared.limits.TheConstants.{ROOT_NUMBER, FIRST_NUMBER, GREATEST_OFFSET, OPEN_FILES}
 use Rattle.model.specs.declared.limits.Limits.{Limits}
-use Rattle.model.specs.Attributes.{FitAttributes, new_attributes}
+use Rattle.model.specs.Attributes.{FitAttributes, mode_alone, new_attributes}
 use Rattle.model.specs.Counting.{CountsUpTo}
 use Rattle.model.specs.Limits.{AreLimits}
 use Rattle.model.specs.Paths.{Path, IsName, IsLinkText, path_eq}
@@ -96,6 +96,6 @@ abbrev pub root_alone : ℕ → Tree
 root_alone mode = record {
   objects = λ p. if path_eq p [] then Some (directory ROOT_NUMBER) else None;
   bytes = λ n. None;
-  attributes = λ n. if n == ROOT_NUMBER then Some (new_attributes mode) else None;
+  attributes = λ n. if n == ROOT_NUMBER then Some (new_attributes (mode_alone mode)) else None;
   descriptors = λ d. None;
 }

@@ -1,11 +1,39 @@
 //! What an object has beside its kind, its count of names and its bytes.
 
 ghost use Rattle.std.specs.Prelude.{◌≡◌, ◌↔◌, IsTrue};
-ghost use Rattle.model.specs.Attributes.{AreAttributes, HaveOnlyMode, new_attributes, no_attributes, set_mode};
+ghost use Rattle.model.specs.Attributes.{AreAttributes, ArePermissions, FitAttributes, HaveOnlyMode, mode_alone, new_attributes, no_attributes, permissions_of, set_given, set_mode};
 ghost use Rattle.model.specs.Touches.{touched_at};
-ghost use Rattle.model.specs.declared.limits.TheConstants.{LINK_MODE};
 
-use crate::{LINK_MODE, Mode, Time};
+use crate::{Mode, Time};
+
+/// Whose an object is, and who may do what with it (POSIX.1-2017, Base Definitions, "File Access
+/// Permissions"): what a new object is given, and what `chmod` and `chown` change.
+#[derive(Clone, Copy, Debug, PartialEq, Eq)]
+pub struct Permissions {
+    pub mode: Mode,
+    pub owner: u32,
+    pub group: u32,
+}
+
+impl Permissions {
+    /// Those of a mode where nothing else is kept: owner and group are 0.
+    pub fn of_mode(mode: Mode) -> Permissions
+        ensures { result ≡ mode_alone mode }
+    {
+        Permissions {
+            mode,
+            owner: 0,
+            group: 0,
+        }
+    }
+
+    /// Their types hold them to their limits. It does nothing.
+    pub fn fit(self)
+        ensures { ArePermissions self }
+    {
+        let _ = self.mode.bits();
+    }
+}
 
 /// What an object has beside its kind, its count of names and its bytes. On a file system without
 /// attributes all but the mode are zeros. Whoever makes one goes through a function of this file, so
@@ -33,32 +61,26 @@ pub enum Touch {
 }
 
 impl Attributes {
-    /// Those of a new object of this mode on a file system without attributes.
-    pub fn new(mode: Mode) -> Attributes
-        ensures { result ≡ new_attributes mode }
+    /// Those of a new object of these permissions, before its times.
+    pub fn new(permissions: Permissions) -> Attributes
+        ensures { result ≡ new_attributes permissions }
     {
+        let Permissions { mode, owner, group } = permissions;
         Attributes {
             mode,
-            owner: 0,
-            group: 0,
+            owner,
+            group,
             modified: Time::epoch(),
             changed: Time::epoch(),
             generation: 0,
         }
     }
 
-    /// Those of each symbolic link there.
-    pub fn of_link() -> Attributes
-        ensures { result ≡ new_attributes LINK_MODE }
-    {
-        Attributes::new(Mode::new(LINK_MODE).unwrap())
-    }
-
     /// None: those of the file system's own files, and of free inodes.
     pub fn none() -> Attributes
         ensures { result ≡ no_attributes }
     {
-        Attributes::new(Mode::new(0).unwrap())
+        Attributes::new(Permissions::of_mode(Mode::new(0).unwrap()))
     }
 
     /// Whether they are none.
@@ -79,11 +101,46 @@ impl Attributes {
             && self.generation == 0
     }
 
+    /// Whether an object may have them where a file system keeps all attributes, or the mode alone.
+    pub fn are_kept(self, has_attributes: bool) -> bool
+        ensures { IsTrue result ↔ FitAttributes has_attributes self }
+    {
+        let _ = self.mode.bits();
+        self.modified.fits();
+        self.changed.fits();
+        has_attributes || self.have_only_mode()
+    }
+
     /// These with another mode.
     pub fn with_mode(self, mode: Mode) -> Attributes
         ensures { result ≡ set_mode mode self }
     {
         Attributes { mode, ..self }
+    }
+
+    /// Its permissions.
+    pub fn permissions(self) -> Permissions
+        ensures { result ≡ permissions_of self }
+    {
+        Permissions {
+            mode: self.mode,
+            owner: self.owner,
+            group: self.group,
+        }
+    }
+
+    /// These with other permissions, and another time of its data.
+    pub fn given(self, permissions: Permissions, modified: Time) -> Attributes
+        ensures { result ≡ set_given permissions modified self }
+    {
+        let Permissions { mode, owner, group } = permissions;
+        Attributes {
+            mode,
+            owner,
+            group,
+            modified,
+            ..self
+        }
     }
 
     /// These of an object that is touched at this time.

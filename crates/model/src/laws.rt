@@ -1,7 +1,7 @@
 //! Laws of the definitions. Each function's contract is one; it does nothing.
 
 ghost use Rattle.model.specs.Laws.{RefusesByItsOwn, RefusalsChangeNothing, HasOneOutcome, RecordsKeepVolumes, SweepsKeepVolumes};
-ghost use Rattle.model.specs.Laws.{IsPathCall, IsCommand, CommandsLeaveStates, AllowedAreStates, MountsFindStates};
+ghost use Rattle.model.specs.Laws.{AreOwners, IsNewTime, IsPathCall, IsCommand, CommandsLeaveStates, AllowedAreStates, MountsFindStates};
 ghost use Rattle.model.specs.Laws.{VolumesAreTrees, RecordsChangeTrees, VolumesTellFresh, VolumesTellLinks, VolumesTellNumbers};
 ghost use Rattle.model.specs.Laws.{VolumesTellUsed};
 ghost use Rattle.model.specs.Laws.{ResolvesByNumbers, ResolvesFromNumbers, TrailsTellBelow, BelowIsByPaths};
@@ -9,7 +9,7 @@ ghost use Rattle.model.specs.Laws.{PartsTellOnce};
 ghost use Rattle.model.specs.Laws.{ReplayFollows, ReplayEndsSame, ReplaysCostTheSame};
 ghost use Rattle.model.specs.Laws.{ReplaysKeepVolumes, MountsFind, MountsForget};
 
-use crate::{Command, PathCall};
+use crate::{Command, NewTime, PathCall};
 
 /// Where nothing comes in its way, a command refuses by its own errnos alone: none that tells of
 /// devices, memory or room.
@@ -128,7 +128,17 @@ pub fn outcomes_are_states()
     ensures mounted { MountsFindStates }
 {}
 
-/// The type of a mode holds each path call to the bounds that this asks of it.
+/// The types of an owner and a group hold them to the bounds that this asks, where they are given.
+fn owners_are_bounded(owner: Option<u32>, group: Option<u32>)
+    ensures { AreOwners owner group }
+{}
+
+/// And that of a time.
+fn new_times_are_bounded(time: NewTime)
+    ensures { IsNewTime time }
+{}
+
+/// The types of what they say hold each path call to the bounds that this asks of it.
 pub fn path_calls_are_bounded(call: &PathCall)
     ensures { IsPathCall call.now }
 {
@@ -139,6 +149,8 @@ pub fn path_calls_are_bounded(call: &PathCall)
         PathCall::Chmod { mode, .. } => {
             let _ = mode.bits();
         }
+        PathCall::Chown { owner, group, .. } => owners_are_bounded(*owner, *group),
+        PathCall::Utimens { time, .. } => new_times_are_bounded(*time),
         PathCall::Set { settings, .. } => {
             if let Some(mode) = settings.mode {
                 let _ = mode.bits();
@@ -160,8 +172,14 @@ pub fn commands_are_bounded(command: &Command)
         | Command::Fchmod { mode, .. } => {
             let _ = mode.bits();
         }
+        Command::Fchown { owner, group, .. } => owners_are_bounded(*owner, *group),
+        Command::Futimens { time, .. } => new_times_are_bounded(*time),
         Command::At { seconds, .. } => {
             let _seconds = *seconds;
+        }
+        Command::As { owner, group } => {
+            let _owner = *owner;
+            let _group = *group;
         }
         _ => {}
     }

@@ -16,8 +16,8 @@ mod session;
 mod text;
 mod time;
 
-pub use attributes::{Attributes, Touch};
-pub use command::{Access, Command, Flags, PathCall, Settings, Whence};
+pub use attributes::{Attributes, Permissions, Touch};
+pub use command::{Access, Command, Flags, NewTime, PathCall, Settings, Whence};
 pub use cookies::cookie_of;
 pub use costs::Costs;
 pub use entries::{Entries, Entry};

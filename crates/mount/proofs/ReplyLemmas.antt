@@ -1,7 +1,8 @@
 -- A reply of a command's kind is a refusal or of that kind.
 use Rattle.std.proofs.Common.{◌≡◌, ◌≢◌, ℕ, List, refl, subst}
 use Rattle.station.specs.declared.station.Station.{Ghosts}
-use Rattle.model.specs.Replies.{IsData, IsDescriptor, IsDone, IsEntries, IsExtent, IsNames, IsOffset, IsOpened, IsReplyTo, IsSnapshots, IsSpace, IsStat, IsTextOf, IsUsage, IsWritten}
+use Rattle.model.specs.Replies.{IsAttributes, IsData, IsDescriptor, IsDone, IsEntries, IsExtent, IsNames, IsOffset, IsOpened, IsReplyTo, IsSnapshots, IsSpace, IsStat, IsTextOf, IsUsage, IsWritten}
+use Rattle.model.specs.declared.attributes.Attributes.{Attributes}
 use Rattle.model.specs.declared.command.Command.{Command}
 use Rattle.model.specs.declared.entries.Entry.{Entry}
 use Rattle.model.specs.declared.errno.Errno.{Errno}
@@ -93,6 +94,13 @@ only_stat command reply answers is not other = by_kind reply (not_other IsStat c
   where
     by_kind : (reply : Reply) → IsStat reply → ((a : Stat) → reply ≢ replies.Stat a) → ⊥
     by_kind (replies.Stat a) kind not = not a refl
+    by_kind reply kind not = kind
+
+pub only_attributes : (command : Command) (reply : Reply) → HasOnlyAnswers command IsAttributes → IsReplyTo command reply → ((a : Stat) (b : Attributes) → reply ≢ replies.Attributes a b) → ((errno : Errno) → reply ≢ replies.Refused errno) → ⊥
+only_attributes command reply answers is not other = by_kind reply (not_other IsAttributes command reply answers is other) not
+  where
+    by_kind : (reply : Reply) → IsAttributes reply → ((a : Stat) (b : Attributes) → reply ≢ replies.Attributes a b) → ⊥
+    by_kind (replies.Attributes a b) kind not = not a b refl
     by_kind reply kind not = kind
 
 pub only_space : (command : Command) (reply : Reply) → HasOnlyAnswers command IsSpace → IsReplyTo command reply → ((a : ℕ) (b : ℕ) (c : ℕ) → reply ≢ replies.Space a b c) → ((errno : Errno) → reply ≢ replies.Refused errno) → ⊥

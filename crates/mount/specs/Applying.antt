@@ -6,6 +6,7 @@ use Rattle.station.specs.Images.{Images}
 use Rattle.station.specs.Moments.{Meaning, LeftBetween, HasGrown, IsSameStation, LeavesOnly}
 use Rattle.station.specs.declared.station.Station.{Ghosts}
 use Rattle.model.specs.Edits.{contents}
+use Rattle.model.specs.declared.attributes.Attributes.{Attributes}
 use Rattle.model.specs.declared.command.Command.{Command}
 use Rattle.model.specs.declared.command.Command.TheVariants.{Df, Statfs}
 use Rattle.model.specs.declared.errno.Errno.{Errno}
@@ -274,6 +275,10 @@ done_reply it = Done
 -- of a file that is opened, its descriptor and what `fstat` tells of it then
 abbrev pub opened_reply : ℕ × Stat → Reply
 opened_reply (fd, stat) = replies.Opened fd stat
+
+-- of what stands somewhere, with its attributes
+abbrev pub attributes_reply : Stat × Attributes → Reply
+attributes_reply (stat, attributes) = replies.Attributes stat attributes
 
 -- and of the room of the disk
 abbrev pub space_reply : Space → Reply

@@ -4,10 +4,12 @@
 ghost use Rattle.model.specs.declared.command.Command.{Command};
 ghost use Rattle.model.specs.declared.limits.TheConstants.{OPEN_FILES};
 ghost use Rattle.model.specs.declared.reply.Reply.{Reply};
-ghost use Rattle.mount.specs.Applying.{AppliesCommand, done_reply, opened_reply, reply_of};
+ghost use Rattle.mount.specs.Applying.{AppliesCommand, attributes_reply, done_reply, opened_reply, reply_of};
 
 use crate::Fs;
-use model::{Bytes, Command, Errno, Flags, Mode, OPEN_FILES, Stat, Text, Whence};
+use model::{
+    Attributes, Bytes, Command, Errno, Flags, Mode, NewTime, OPEN_FILES, Stat, Text, Whence,
+};
 use station::Station;
 
 impl<S: Station> Fs<S> {
@@ -111,11 +113,37 @@ impl<S: Station> Fs<S> {
         self.apply_for_done(Command::Fchmod { fd, mode })
     }
 
+    /// `fchown`: gives the file this owner and this group, each where one is given, whatever it is open
+    /// for. ENOTSUP where the file system keeps no owners.
+    pub fn fchown(&mut self, fd: u32, owner: Option<u32>, group: Option<u32>) -> Result<(), Errno>
+        ensures { AppliesCommand self.old self.new (Command.Fchown fd owner group)
+            (reply_of done_reply result) }
+    {
+        self.apply_for_done(Command::Fchown { fd, owner, group })
+    }
+
+    /// `futimens`: gives the file's data this time, whatever it is open for. ENOTSUP where the file
+    /// system keeps no times, EINVAL where the nanoseconds aren't below a second.
+    pub fn futimens(&mut self, fd: u32, time: NewTime) -> Result<(), Errno>
+        ensures { AppliesCommand self.old self.new (Command.Futimens fd time)
+            (reply_of done_reply result) }
+    {
+        self.apply_for_done(Command::Futimens { fd, time })
+    }
+
     /// `fstat`: what `stat` tells, of the file.
     pub fn fstat(&mut self, fd: u32) -> Result<Stat, Errno>
         ensures { AppliesCommand self.old self.new (Command.Fstat fd) (reply_of Reply.Stat result) }
     {
         self.apply_for_stat(Command::Fstat { fd })
+    }
+
+    /// `fattr`: what `attr` tells, of the file.
+    pub fn fattr(&mut self, fd: u32) -> Result<(Stat, Attributes), Errno>
+        ensures { AppliesCommand self.old self.new (Command.Fattr fd)
+            (reply_of attributes_reply result) }
+    {
+        self.apply_for_attributes(Command::Fattr { fd })
     }
 
     /// `fsync`: is done at once, since what was answered is kept already.

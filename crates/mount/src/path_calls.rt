@@ -1,13 +1,17 @@
 //! Calls that name a path. A path that leads to nothing is ENOENT, and where it begins at a number
 //! that no object has ESTALE; docs/COMMANDS.md says which other refusals come, and in what order.
 
+ghost use Rattle.std.specs.Prelude.{true, false};
 ghost use Rattle.model.specs.declared.command.Command.{Command};
 ghost use Rattle.model.specs.declared.command.PathCall.{PathCall};
 ghost use Rattle.model.specs.declared.reply.Reply.{Reply};
-ghost use Rattle.mount.specs.Applying.{AppliesCommand, done_reply, reply_of};
+ghost use Rattle.mount.specs.Applying.{AppliesCommand, attributes_reply, done_reply, reply_of};
 
 use crate::Fs;
-use model::{Bytes, Command, Entries, Errno, Extent, Mode, Names, PathCall, Settings, Stat, Text};
+use model::{
+    Attributes, Bytes, Command, Entries, Errno, Extent, Mode, Names, NewTime, PathCall, Settings,
+    Stat, Text,
+};
 use station::Station;
 
 impl<S: Station> Fs<S> {
@@ -56,6 +60,29 @@ impl<S: Station> Fs<S> {
     {
         self.apply_for_stat(Command::Path(PathCall::Lstat {
             path: Bytes::of(path),
+        }))
+    }
+
+    /// `attr`: what `stat` tells, and the attributes. A last link is followed. ENOTSUP where none are
+    /// kept.
+    pub fn attr(&mut self, path: &[u8]) -> Result<(Stat, Attributes), Errno>
+        ensures { AppliesCommand self.old self.new (Command.Path (PathCall.Attr path.now true))
+            (reply_of attributes_reply result) }
+    {
+        self.apply_for_attributes(Command::Path(PathCall::Attr {
+            path: Bytes::of(path),
+            follows: true,
+        }))
+    }
+
+    /// `lattr`: the same of a link itself.
+    pub fn lattr(&mut self, path: &[u8]) -> Result<(Stat, Attributes), Errno>
+        ensures { AppliesCommand self.old self.new (Command.Path (PathCall.Attr path.now false))
+            (reply_of attributes_reply result) }
+    {
+        self.apply_for_attributes(Command::Path(PathCall::Attr {
+            path: Bytes::of(path),
+            follows: false,
         }))
     }
 
@@ -181,6 +208,68 @@ impl<S: Station> Fs<S> {
         self.apply_for_done(Command::Path(PathCall::Chmod {
             path: Bytes::of(path),
             mode,
+        }))
+    }
+
+    /// `chown`: gives what a path leads to this owner and this group, each where one is given. A last
+    /// link is followed. ENOTSUP where the file system keeps no owners.
+    pub fn chown(
+        &mut self,
+        path: &[u8],
+        owner: Option<u32>,
+        group: Option<u32>,
+    ) -> Result<(), Errno>
+        ensures { AppliesCommand self.old self.new
+            (Command.Path (PathCall.Chown path.now true owner group)) (reply_of done_reply result) }
+    {
+        self.apply_for_done(Command::Path(PathCall::Chown {
+            path: Bytes::of(path),
+            follows: true,
+            owner,
+            group,
+        }))
+    }
+
+    /// `lchown`: the same of what has a path, a link itself.
+    pub fn lchown(
+        &mut self,
+        path: &[u8],
+        owner: Option<u32>,
+        group: Option<u32>,
+    ) -> Result<(), Errno>
+        ensures { AppliesCommand self.old self.new
+            (Command.Path (PathCall.Chown path.now false owner group)) (reply_of done_reply result) }
+    {
+        self.apply_for_done(Command::Path(PathCall::Chown {
+            path: Bytes::of(path),
+            follows: false,
+            owner,
+            group,
+        }))
+    }
+
+    /// `utimens`: gives the data of what a path leads to this time. A last link is followed. ENOTSUP
+    /// where the file system keeps no times, EINVAL where the nanoseconds aren't below a second.
+    pub fn utimens(&mut self, path: &[u8], time: NewTime) -> Result<(), Errno>
+        ensures { AppliesCommand self.old self.new
+            (Command.Path (PathCall.Utimens path.now true time)) (reply_of done_reply result) }
+    {
+        self.apply_for_done(Command::Path(PathCall::Utimens {
+            path: Bytes::of(path),
+            follows: true,
+            time,
+        }))
+    }
+
+    /// `lutimens`: the same of what has a path, a link itself.
+    pub fn lutimens(&mut self, path: &[u8], time: NewTime) -> Result<(), Errno>
+        ensures { AppliesCommand self.old self.new
+            (Command.Path (PathCall.Utimens path.now false time)) (reply_of done_reply result) }
+    {
+        self.apply_for_done(Command::Path(PathCall::Utimens {
+            path: Bytes::of(path),
+            follows: false,
+            time,
         }))
     }
 

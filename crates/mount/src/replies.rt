@@ -1,11 +1,11 @@
 //! Commands applied whose reply is a value, by the kind of it.
 
-ghost use Rattle.model.specs.Replies.{IsData, IsDescriptor, IsDone, IsEntries, IsExtent, IsNames, IsOffset, IsOpened, IsSnapshots, IsSpace, IsStat, IsTextOf, IsUsage, IsWritten};
+ghost use Rattle.model.specs.Replies.{IsAttributes, IsData, IsDescriptor, IsDone, IsEntries, IsExtent, IsNames, IsOffset, IsOpened, IsSnapshots, IsSpace, IsStat, IsTextOf, IsUsage, IsWritten};
 ghost use Rattle.model.specs.declared.reply.Reply.{Reply};
-ghost use Rattle.mount.specs.Applying.{AppliesCommand, HasOnlyAnswers, done_reply, opened_reply, reply_of, space_reply};
+ghost use Rattle.mount.specs.Applying.{AppliesCommand, HasOnlyAnswers, attributes_reply, done_reply, opened_reply, reply_of, space_reply};
 
 use crate::Fs;
-use model::{Command, Entries, Errno, Extent, Names, Reply, Stat, Text, Usage};
+use model::{Attributes, Command, Entries, Errno, Extent, Names, Reply, Stat, Text, Usage};
 use station::Station;
 use system::Space;
 
@@ -144,6 +144,22 @@ impl<S: Station> Fs<S> {
     {
         match self.apply_owned(command) {
             Reply::Stat(stat) => Ok(stat),
+            Reply::Refused(errno) => Err(errno),
+            _ => unreachable!(),
+        }
+    }
+
+    /// Applies a command that is answered what stands somewhere, and its attributes.
+    pub(crate) fn apply_for_attributes(
+        &mut self,
+        command: Command<'_>,
+    ) -> Result<(Stat, Attributes), Errno>
+        requires { HasOnlyAnswers command IsAttributes }
+        ensures { AppliesCommand self.old self.new command.entry
+            (reply_of attributes_reply result) }
+    {
+        match self.apply_owned(command) {
+            Reply::Attributes { stat, attributes } => Ok((stat, attributes)),
             Reply::Refused(errno) => Err(errno),
             _ => unreachable!(),
         }

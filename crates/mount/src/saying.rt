@@ -20,4 +20,13 @@ impl<S: Station> Fs<S> {
             nanoseconds,
         })
     }
+
+    /// `as`: from here on what calls make is of this owner and this group. ENOTSUP where the file
+    /// system keeps no owners.
+    pub fn as_owner(&mut self, owner: u32, group: u32) -> Result<(), Errno>
+        ensures { AppliesCommand self.old self.new (Command.As owner group)
+            (reply_of done_reply result) }
+    {
+        self.apply_for_done(Command::As { owner, group })
+    }
 }

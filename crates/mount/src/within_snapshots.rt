@@ -1,12 +1,13 @@
 //! Calls that read the tree of a snapshot. NOSNAP where no snapshot has the name.
 
+ghost use Rattle.std.specs.Prelude.{false, true};
 ghost use Rattle.model.specs.declared.command.Command.{Command};
 ghost use Rattle.model.specs.declared.command.PathCall.{PathCall};
 ghost use Rattle.model.specs.declared.reply.Reply.{Reply};
-ghost use Rattle.mount.specs.Applying.{AppliesCommand, reply_of};
+ghost use Rattle.mount.specs.Applying.{AppliesCommand, attributes_reply, reply_of};
 
 use crate::Fs;
-use model::{Bytes, Command, Entries, Errno, Names, PathCall, Stat, Text};
+use model::{Attributes, Bytes, Command, Entries, Errno, Names, PathCall, Stat, Text};
 use station::Station;
 
 impl<S: Station> Fs<S> {
@@ -54,6 +55,36 @@ impl<S: Station> Fs<S> {
             name: Bytes::of(name),
             call: PathCall::Stat {
                 path: Bytes::of(path),
+            },
+        })
+    }
+
+    /// What a path leads to in the snapshot, with its attributes, as `attr` tells it.
+    pub fn attr_in(&mut self, name: &[u8], path: &[u8]) -> Result<(Stat, Attributes), Errno>
+        ensures { AppliesCommand self.old self.new
+            (Command.Within name.now (PathCall.Attr path.now true))
+            (reply_of attributes_reply result) }
+    {
+        self.apply_for_attributes(Command::Within {
+            name: Bytes::of(name),
+            call: PathCall::Attr {
+                path: Bytes::of(path),
+                follows: true,
+            },
+        })
+    }
+
+    /// The same of a link itself.
+    pub fn lattr_in(&mut self, name: &[u8], path: &[u8]) -> Result<(Stat, Attributes), Errno>
+        ensures { AppliesCommand self.old self.new
+            (Command.Within name.now (PathCall.Attr path.now false))
+            (reply_of attributes_reply result) }
+    {
+        self.apply_for_attributes(Command::Within {
+            name: Bytes::of(name),
+            call: PathCall::Attr {
+                path: Bytes::of(path),
+                follows: false,
             },
         })
     }

@@ -154,7 +154,7 @@ module _ {detail : Detail} {disk : ℕ → List ℕ} {settled : ℕ → Inode} {
 alone_fits : (o : Option Object) (u : Update) → IsAlone u → FitsUpdate o u
 alone_fits o (updates.Set object) alone = tt
 alone_fits o (updates.Names edit) alone = absurd alone
-alone_fits o (updates.SetMode mode) alone = tt
+alone_fits o (updates.Attributes permissions modified) alone = tt
 alone_fits o (updates.Bytes change mode) alone = absurd alone
 alone_fits o (updates.Links links) alone = tt
 
@@ -168,7 +168,7 @@ alone_some s (Some step) alone is = alone_takes s step.number step.update alone 
 pub alone_apart : (n number : ℕ) (u : Update) → IsAlone u → IsApart n number u
 alone_apart n number (updates.Set object) alone = tt
 alone_apart n number (updates.Names edit) alone = absurd alone
-alone_apart n number (updates.SetMode mode) alone = tt
+alone_apart n number (updates.Attributes permissions modified) alone = tt
 alone_apart n number (updates.Bytes change mode) alone = absurd alone
 alone_apart n number (updates.Links links) alone = tt
 

@@ -4,7 +4,7 @@ use Rattle.std.specs.Result.{IsErrAnd, IsErrOf}
 use Rattle.std.specs.Prelude.{OnOk}
 use Rattle.std.proofs.lemmas.Bool.{cases_eq}
 use Rattle.layout.specs.declared.inode.Inode.{Inode}
-use Rattle.model.specs.Records.{Edit, create, link, remove_name, rename, write, truncate, change_mode, set_file}
+use Rattle.model.specs.Records.{Edit, create, link, remove_name, rename, write, truncate, change_attributes, set_file}
 use Rattle.model.specs.Touches.{Touches}
 use Rattle.model.specs.Volumes.{Volume}
 use Rattle.model.specs.declared.time.Time.{Time}
@@ -22,11 +22,10 @@ use Rattle.inofile.specs.Volumes.{IsVolumeIn}
 use Rattle.inofile.specs.declared.inode_file.InodeFile.{InodeFile}
 use Rattle.paths.proofs.LookingUp.{same_error}
 use Rattle.paths.proofs.Looks.{looks_err, looks_more, looks_ok}
-use Rattle.records.specs.Looking.{Brings}
 use Rattle.records.specs.Marks.{AreMarkedAtHand, BringsBeside, KeepsLoaded, OnEachTouched, OnMarked, touches_in}
 use Rattle.records.specs.Plans.{DoesEditIn, IsPlanAtHand, IsPlanReady, KnowsEdited}
-use Rattle.records.specs.Room.{SomeRoom, StepRoom, UpdateRoom}
-use Rattle.records.specs.Steps.{FitsUpdate, IsAtHand, Steps, StepsSome, TakesSome, TakesUpdate}
+use Rattle.records.specs.Room.{SomeRoom, UpdateRoom}
+use Rattle.records.specs.Steps.{FitsUpdate, IsAtHand, StepsSome, TakesSome, TakesUpdate}
 use Rattle.records.specs.declared.marks.Marks.{Marks}
 use Rattle.records.specs.declared.plans.Plan.{Plan}
 use Rattle.records.specs.declared.steps.ObjectUpdate.{ObjectUpdate}
@@ -202,7 +201,7 @@ module _ (s t : InodeFile) (same : t.geometry ≡ s.geometry) (keeps : (n : ℕ)
   knows_later (link number parent name) knows = tt
   knows_later (remove_name parent name) knows = tt
   knows_later (rename parent name new_parent new_name) knows = tt
-  knows_later (change_mode number mode) knows = tt
+  knows_later (change_attributes number permissions modified) knows = tt
 
   some_room_later : (step : Option ObjectUpdate) (k : ℕ) → TakesSome s step → SomeRoom s step k → SomeRoom t step k
   some_room_later None k takes room = tt

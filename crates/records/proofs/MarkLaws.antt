@@ -1,5 +1,5 @@
 -- Objects in memory that are touched.
-use Rattle.std.proofs.Common.{◌≡◌, ◌+◌, ◌*◌, ◌≤◌, ℕ, zero, suc, Bool, true, false, List, length, Option, Some, None, IfSome, refl, ap, sym, subst, ◌∙◌, arith}
+use Rattle.std.proofs.Common.{◌≡◌, ◌+◌, ◌*◌, ◌≤◌, ℕ, zero, suc, Bool, true, false, List, length, Option, Some, None, IfSome, refl, ap, ◌∙◌, arith}
 use Rattle.std.specs.Prelude.{max, nat_lt, if◌then◌else◌}
 use Rattle.std.proofs.lemmas.Bool.{false≢true}
 use Rattle.layout.specs.Inode.{FitsKind}
@@ -17,14 +17,14 @@ use Rattle.model.specs.declared.attributes.Touch.{Touch}
 use Rattle.model.specs.declared.attributes.Touch.TheVariants as touch
 use Rattle.model.specs.declared.time.Time.{Time}
 use Rattle.model.specs.Attributes.{KeepsTime}
-use Rattle.model.specs.Records.{Edit, marked_nodes, size_before, touches_of, with_node_attributes, work_by, create, link, remove_name, rename, write, truncate, change_mode, set_file}
+use Rattle.model.specs.Records.{Edit, marked_nodes, size_before, touches_of, with_node_attributes, work_by, create, link, remove_name, rename, write, truncate, change_attributes, set_file}
 use Rattle.model.specs.Room.{Work, adds_name, removes_name, puts_bytes, changes_size, changes_bits, cost, touched}
 use Rattle.model.specs.Touches.{Touches, touched_at}
 use Rattle.model.specs.Volumes.{Node, Volume, directory_node, entries, file_node, link_node}
 use Rattle.model.proofs.MarkLemmas.{touched_fit}
 use Rattle.model.proofs.OptionLaws.{none_some}
-use Rattle.images.specs.Contents.{Content, StandsAs}
-use Rattle.images.specs.Sizes.{IsSizedAs, StandsAsIn}
+use Rattle.images.specs.Contents.{Content}
+use Rattle.images.specs.Sizes.{StandsAsIn}
 use Rattle.images.specs.Soundness.{Detail, by_bytes, by_sizes}
 use Rattle.inode.specs.declared.object.Object.{Object}
 use Rattle.inofile.specs.Objects.{IsObjectIn, IsObjectKind, IsObjectOrNone}
@@ -36,35 +36,7 @@ use Rattle.inofile.specs.declared.inode_file.ObjectSlot.TheVariants.{Changed}
 use Rattle.records.specs.Marks.{MarksVolume, mark_room, touch_room}
 use Rattle.records.specs.Room.{CountsObject, RaisesFile, step_costs}
 use Rattle.records.proofs.RoomLaws.{more}
-use Rattle.records.proofs.StepLaws.{with_attributes}
-
--- ---- an object with other attributes
-
-module _ (inodes : ℕ) (f : Attributes → Attributes) (c : Content) (found : Option Node) where
-  abbrev after : Content
-  after = record { kind = c.kind; attributes = f c.attributes; links = c.links; size = c.size; block = c.block }
-
-  stands_after : (k : Kind) → StandsAs k inodes c found → StandsAs k inodes after (with_node_attributes f found)
-  stands_after kinds.Free stands = ap (with_node_attributes f) stands
-  stands_after kinds.File stands = ap (with_node_attributes f) stands
-  stands_after kinds.Directory stands = (stands.0, stands.1, ap (with_node_attributes f) stands.2)
-  stands_after kinds.Link stands = ap (with_node_attributes f) stands
-  stands_after kinds.InodeFile stands = ap (with_node_attributes f) stands
-  stands_after kinds.InodeMap stands = ap (with_node_attributes f) stands
-  stands_after kinds.BlockMap stands = ap (with_node_attributes f) stands
-
-  sized_after : (k : Kind) → IsSizedAs k inodes c found → IsSizedAs k inodes after (with_node_attributes f found)
-  sized_after kinds.File stands = (stands.0, stands.1, stands.2, ap (with_node_attributes f) stands.3)
-  sized_after kinds.Link stands = (stands.0, stands.1, ap (with_node_attributes f) stands.2)
-  sized_after kinds.Directory stands = (stands.0, stands_after kinds.Directory stands.1)
-  sized_after kinds.Free stands = stands_after kinds.Free stands
-  sized_after kinds.InodeFile stands = stands_after kinds.InodeFile stands
-  sized_after kinds.InodeMap stands = stands_after kinds.InodeMap stands
-  sized_after kinds.BlockMap stands = stands_after kinds.BlockMap stands
-
-  in_detail_after : (detail : Detail) (k : Kind) → StandsAsIn detail k inodes c found → StandsAsIn detail k inodes after (with_node_attributes f found)
-  in_detail_after by_bytes k stands = stands_after k stands
-  in_detail_after by_sizes k stands = sized_after k stands
+use Rattle.records.proofs.StepLaws.{attributes_set, with_attributes}
 
 -- ---- an object that is touched
 
@@ -82,15 +54,10 @@ fits_touched kinds.BlockMap s time t a links size is fits = absurd is
 pub object_touched : (detail : Detail) (disk : ℕ → List ℕ) (inodes : ℕ) (settled : Inode) (o : Object) (found : Option Node) (time : Time) (t : Touch) → KeepsTime (has_attributes settled.layout) (Some time)
     → IsObjectIn detail disk inodes settled o found
     → IsObjectIn detail disk inodes settled (with_attributes o (touched_at time t o.status.attributes)) (with_node_attributes (touched_at time t) found)
-object_touched detail disk inodes settled o found time t keeps was = record {
-  kind = was.kind;
-  attributes = touched_fit (has_attributes settled.layout) time t o.status.attributes keeps was.attributes;
-  fits = λ s. fits_touched o.status.kind s time t o.status.attributes o.status.links o.file.size was.kind (was.fits s);
-  stands = in_detail_after inodes (touched_at time t) (content_of_object disk o) found detail o.status.kind was.stands;
-  ends = was.ends;
-  base = was.base;
-  known = was.known;
-}
+object_touched detail disk inodes settled o found time t keeps was =
+    attributes_set detail disk inodes settled o found (touched_at time t)
+    (touched_fit (has_attributes settled.layout) time t o.status.attributes keeps was.attributes)
+    (λ s. fits_touched o.status.kind s time t o.status.attributes o.status.links o.file.size was.kind (was.fits s)) was
 
 -- ---- what it may store
 
@@ -203,7 +170,7 @@ touches_left blocks v time (write number offset bytes) = beside_it (nat_lt SINGL
     beside_it true = omega arith
     beside_it false = omega arith
 touches_left blocks v time (truncate number size) = omega arith
-touches_left blocks v time (change_mode number mode) = omega arith
+touches_left blocks v time (change_attributes number permissions modified) = omega arith
 touches_left blocks v time (set_file number mode size) = omega arith
 
 -- with all that it touches, what a record does costs no more than the record

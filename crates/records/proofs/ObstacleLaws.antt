@@ -1,10 +1,10 @@
 -- Obstacles to records, one by one.
-use Rattle.std.proofs.Common.{◌≡◌, ◌≢◌, ◌||◌, inl, inr, ℕ, Bool, true, false, List, Option, Some, None, Err, refl, sym, ap, subst, ◌∙◌, arith}
-use Rattle.std.proofs.lemmas.Bool.{both_ways, false≢true}
+use Rattle.std.proofs.Common.{◌≡◌, ◌≢◌, inl, inr, ℕ, Bool, true, false, List, Option, Some, None, Err, refl, sym, ap, subst, ◌∙◌, arith}
+use Rattle.std.proofs.lemmas.Bool.{false≢true}
 use Rattle.model.specs.declared.limits.Limits.{Limits}
 use Rattle.layout.specs.declared.inode.Inode.{Inode}
 use Rattle.model.specs.Paths.{IsName, Name}
-use Rattle.model.specs.Records.{Applies, CanEdit, CanRename, CanReplace, Change, Edit, IsBelow, change_mode, create, set_file, truncate, link, rename, remove_name, write}
+use Rattle.model.specs.Records.{Applies, CanEdit, CanRename, CanReplace, Change, Edit, IsBelow, change_attributes, create, set_file, truncate, link, rename, remove_name, write}
 use Rattle.model.specs.Volumes.{Volume, entries, is_directory_node, is_file_node}
 use Rattle.model.specs.declared.errno.Errno.{Errno}
 use Rattle.model.specs.declared.errno.Errno.TheVariants.{DAMAGED, DIRFULL, EEXIST, EFBIG, EINVAL, EISDIR, EMLINK, ENAMETOOLONG, ENOENT, ENOTDIR, ENOTEMPTY, EPERM}
@@ -71,7 +71,7 @@ bar_stops limits v (rename d x k y) errno (n, there, bars) can = move_stops limi
 bar_stops limits v (write n offset bytes) EFBIG is can = is can
 bar_stops limits v (truncate n size) EFBIG is can = is can
 bar_stops limits v (set_file n mode size) EFBIG is can = is can
-bar_stops limits v (change_mode n mode) DAMAGED is can = both_ways (is_file_node (v n) || is_directory_node (v n)) is can.0
+bar_stops limits v (change_attributes n permissions modified) DAMAGED is can = is can
 bar_stops limits v _ _ is can = absurd is
 
 -- the same of a record

@@ -1,6 +1,6 @@
 -- Functions that prepare a record: by a plan of what it does, and with what it touches.
-use Rattle.std.proofs.Common.{◌≡◌, ℕ, List, Option, Result, Ok, Err, IfErr, IfOk, IfSome, IsTrue, None, Some, refl, sym, subst, ◌∙◌}
-use Rattle.std.specs.Result.{IsErrAnd, IsErrOf}
+use Rattle.std.proofs.Common.{◌≡◌, ℕ, List, Option, Result, Ok, Err, IfErr, IfOk, IfSome, IsTrue, None, Some, refl, sym, subst}
+use Rattle.std.specs.Result.{IsErrAnd}
 use Rattle.layout.specs.StateLimits.{limits_of}
 use Rattle.layout.specs.Limits.{Sizes}
 use Rattle.layout.specs.declared.inode.Inode.{Inode}
@@ -11,7 +11,6 @@ use Rattle.model.specs.Volumes.{Volume}
 use Rattle.model.specs.declared.time.Time.{Time}
 use Rattle.buffers.specs.Errors.{IsFault}
 use Rattle.buffers.specs.declared.error.BlockError.{BlockError}
-use Rattle.buffers.specs.declared.error.BlockError.TheVariants.{Damaged}
 use Rattle.buffers.specs.declared.blocks.Blocks.{Ghosts}
 use Rattle.images.specs.Replaying.{LeavesPlace}
 use Rattle.images.specs.Soundness.{Detail}

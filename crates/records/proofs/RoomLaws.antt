@@ -1,5 +1,5 @@
 -- What updates and steps add to what a consistency point may store.
-use Rattle.std.proofs.Common.{◌≡◌, ◌∙◌, ℕ, zero, suc, ◌+◌, ◌≤◌, List, Bool, true, false, Option, Some, None, IsTrue, ◌||◌, if◌then◌else◌, refl, ap, sym, subst, arith}
+use Rattle.std.proofs.Common.{◌≡◌, ◌∙◌, ℕ, zero, suc, ◌+◌, ◌≤◌, List, Bool, true, false, Option, Some, None, IsTrue, if◌then◌else◌, refl, ap, sym, subst, arith}
 use Rattle.std.specs.Ordering.{nat_cmp}
 use Rattle.std.specs.BTreeMap.{get}
 use Rattle.std.proofs.lemmas.Bool.{false≢true}
@@ -7,8 +7,8 @@ use Rattle.layout.specs.DirectoryNames.{NameMap}
 use Rattle.layout.specs.declared.inode.Inode.{Inode}
 use Rattle.model.specs.declared.attributes.Attributes.{Attributes}
 use Rattle.model.specs.Attributes.{set_mode}
-use Rattle.model.specs.Records.{with_file_bytes, with_node_mode}
-use Rattle.model.specs.Volumes.{Node, Volume, directory_node, file_node, link_node, is_directory_node, is_file_node, is_orphan}
+use Rattle.model.specs.Records.{with_file_bytes}
+use Rattle.model.specs.Volumes.{Node, Volume, directory_node, file_node, link_node, is_file_node, is_orphan}
 use Rattle.dirs.specs.Room.{piece_count}
 use Rattle.dirs.specs.declared.edit.Edit.{Edit}
 use Rattle.inode.specs.Room.{edit_room, file_room}
@@ -72,20 +72,6 @@ module _ (detail : Detail) (disk : ℕ → List ℕ) (inodes : ℕ) (settled : I
         room,
         more (directory_node o.status.attributes edits.names) (directory_node o.status.attributes (f edits.names)) o after (edit_room (piece_count edit)) had raises (omega arith),
       ))
-
-  -- a file or directory has another mode
-  pub mode_room : (found : Option Node) (was after : Option Object) (mode k : ℕ) → IsObjectOrNone detail disk inodes settled was found → IsTrue (is_file_node found || is_directory_node found)
-      → CountsObject was slot → RaisesFile was after 0 → 2 ≤ k → room_of (Some (Changed after)) base (with_node_mode mode found) ≤ room_of slot base found + k
-  mode_room None was after mode k is has had raises room = absurd (false≢true has)
-  mode_room (Some (link_node attributes text)) was after mode k is has had raises room = absurd (false≢true has)
-  mode_room (Some (directory_node old names)) None after mode k is has had raises room = absurd cc
-  mode_room (Some (directory_node old names)) (Some o) after mode k is has had raises room =
-      omega (arith, room, more (directory_node old names) (directory_node (set_mode mode old) names) o after 0 had raises (omega arith))
-  mode_room (Some (file_node old links bytes)) None after mode k is has had raises room = absurd cc
-  mode_room (Some (file_node old zero bytes)) (Some o) after mode k is has had raises room =
-      omega (arith, room, more (file_node old zero bytes) (file_node (set_mode mode old) zero bytes) o after 0 had raises (omega arith))
-  mode_room (Some (file_node old (suc links) bytes)) (Some o) after mode k is has had raises room =
-      omega (arith, room, more (file_node old (suc links) bytes) (file_node (set_mode mode old) (suc links) bytes) o after 0 had raises (omega arith))
 
   -- a file has other bytes, and a mode, where it is given
   pub bytes_room : (found : Option Node) (was after : Option Object) (f : List ℕ → List ℕ) (change : FileUpdate) (mode : Option ℕ) (k : ℕ) → IsObjectOrNone detail disk inodes settled was found → IsTrue (is_file_node found)

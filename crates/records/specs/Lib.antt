@@ -15,6 +15,7 @@ pub mod Preparing
 pub mod Naming
 pub mod Reading
 pub mod Rewriting
+pub mod Attributes
 pub mod Below
 pub mod Moving
 pub mod Sweeping

@@ -1,9 +1,9 @@
 -- The first obstacle to a record, in the order of the tests of its call: what it does can't be done.
-use Rattle.std.specs.Prelude.{ℕ, ◌≡◌, ◌≢◌, ◌≤◌, ◌<◌, ◌||◌, Bool, true, IsFalse, IsTrue, Option, Some, None}
+use Rattle.std.specs.Prelude.{ℕ, ◌≡◌, ◌≢◌, ◌≤◌, ◌<◌, Bool, true, IsFalse, IsTrue, Option, Some, None}
 use Rattle.model.specs.declared.limits.Limits.{Limits}
 use Rattle.model.specs.Laws.{is_own}
 use Rattle.model.specs.Paths.{IsName, Name}
-use Rattle.model.specs.Records.{CanEdit, Change, Edit, IsBelow, IsEmpty, IsMade, Made, TakesName, change_mode, create, set_file, truncate, is_vacant, link, rename, remove_name, write}
+use Rattle.model.specs.Records.{CanEdit, Change, Edit, IsBelow, IsEmpty, IsMade, Made, TakesName, change_attributes, create, set_file, truncate, is_vacant, link, rename, remove_name, write}
 use Rattle.model.specs.Volumes.{Volume, entries, is_directory_node, is_file_node}
 use Rattle.model.specs.declared.errno.Errno.{Errno}
 use Rattle.model.specs.declared.errno.Errno.TheVariants.{DAMAGED, DIRFULL, EEXIST, EFBIG, EINVAL, EISDIR, EMLINK, ENAMETOOLONG, ENOENT, ENOTDIR, ENOTEMPTY, EPERM}
@@ -52,14 +52,15 @@ BarsEdit limits v (rename d x k y) errno = (n : ℕ) × (entries v d x ≡ Some 
 BarsEdit limits v (write n offset bytes) EFBIG = CanEdit limits v (write n offset bytes) → ⊥
 BarsEdit limits v (truncate n size) EFBIG = CanEdit limits v (truncate n size) → ⊥
 BarsEdit limits v (set_file n mode size) EFBIG = CanEdit limits v (set_file n mode size) → ⊥
-BarsEdit limits v (change_mode n mode) DAMAGED = IsFalse (is_file_node (v n) || is_directory_node (v n))
+BarsEdit limits v (change_attributes n permissions modified) DAMAGED =
+    CanEdit limits v (change_attributes n permissions modified) → ⊥
 BarsEdit limits v edit errno = ⊥
 
 -- an errno that tells an obstacle: one of the call's own, or that a number of the record isn't as
 -- it must be
 abbrev pub may_bar : Edit → Errno → Bool
 may_bar (create n d made x) DAMAGED = true
-may_bar (change_mode n mode) DAMAGED = true
+may_bar (change_attributes n permissions modified) DAMAGED = true
 may_bar edit errno = is_own errno
 
 -- both of a record

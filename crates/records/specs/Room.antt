@@ -24,7 +24,7 @@ abbrev pub UpdateRoom : Option Object → Update → ℕ → Type 0
 UpdateRoom o (updates.Set None) k = 3 ≤ k
 UpdateRoom o (updates.Set (Some object)) k = 7 + file_room object.file ≤ k
 UpdateRoom o (updates.Names edit) k = edit_room (piece_count edit) + 2 ≤ k
-UpdateRoom o (updates.SetMode mode) k = 2 ≤ k
+UpdateRoom o (updates.Attributes permissions modified) k = 2 ≤ k
 UpdateRoom o (updates.Bytes change mode) k = (more : ℕ) × (more + 2 ≤ k) × StoresIn o change more
 UpdateRoom o (updates.Links links) k = 6 ≤ k
 

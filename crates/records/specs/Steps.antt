@@ -1,12 +1,14 @@
 -- Steps of a plan: each changes one object in memory.
-use Rattle.std.specs.Prelude.{ℕ, ◌≡◌, ◌≢◌, ◌+◌, ◌≤◌, ◌<◌, ◌||◌, IsTrue, List, Option, Some, None}
+use Rattle.std.specs.Prelude.{ℕ, ◌≡◌, ◌≢◌, ◌+◌, ◌≤◌, ◌<◌, IsTrue, List, Option, Some, None}
 use Rattle.layout.specs.declared.inode.Inode.{Inode}
 use Rattle.layout.specs.DirectoryNames.{NameMap}
 use Rattle.model.specs.declared.attributes.Attributes.{Attributes}
 use Rattle.layout.specs.declared.limits.TheConstants.{FILE_NAMES}
 use Rattle.model.specs.declared.limits.TheConstants.{ROOT_NUMBER}
-use Rattle.model.specs.Records.{with_file_bytes, with_node_mode}
-use Rattle.model.specs.Volumes.{Node, Volume, file_node, is_directory_node, is_file_node, with_node}
+use Rattle.layout.specs.Trees.{has_attributes}
+use Rattle.model.specs.Attributes.{set_given}
+use Rattle.model.specs.Records.{TakesGiven, with_file_bytes, with_node_attributes, with_node_mode}
+use Rattle.model.specs.Volumes.{Node, Volume, file_node, is_file_node, with_node}
 use Rattle.inode.specs.declared.object.Object.{Object}
 use Rattle.images.specs.Soundness.{Detail}
 use Rattle.inofile.specs.Inodes.{HasRoomFor, IsKnown, loaded}
@@ -92,8 +94,9 @@ abbrev pub Updates : Detail → (ℕ → List ℕ) → ℕ → Inode → Option 
 Updates detail disk inodes settled found o (updates.Set object) to = IsObjectOrNone detail disk inodes settled object to
 Updates detail disk inodes settled found o (updates.Names edit) to =
     (f : NameMap → NameMap) × EditsIn disk inodes f found o edit × (to ≡ with_node_names f found)
-Updates detail disk inodes settled found o (updates.SetMode mode) to =
-    IsTrue (is_file_node found || is_directory_node found) × (to ≡ with_node_mode mode found)
+Updates detail disk inodes settled found o (updates.Attributes permissions modified) to =
+    TakesGiven (has_attributes settled.layout) found permissions modified
+    × (to ≡ with_node_attributes (set_given permissions modified) found)
 Updates detail disk inodes settled found o (updates.Bytes change mode) to =
     (f : List ℕ → List ℕ) × IsTrue (is_file_node found) × RewritesIn detail disk f o change × (to ≡ with_given_mode mode (with_file_bytes f found))
 Updates detail disk inodes settled found o (updates.Links links) to =

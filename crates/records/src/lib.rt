@@ -4,8 +4,8 @@
 //! that are left with no name.
 #![tactic(auto)]
 
+mod attributes;
 mod below;
-mod chmod;
 mod contents;
 mod directory_names;
 mod failure;
@@ -24,7 +24,7 @@ mod renaming;
 mod rewriting;
 mod steps;
 
-pub use chmod::prepare_mode;
+pub use attributes::{attributes_at, prepare_attributes};
 pub use failure::Failure;
 pub use kinds::kind_at;
 pub use links::prepare_link;

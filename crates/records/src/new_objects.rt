@@ -3,14 +3,15 @@
 ghost use Rattle.std.specs.Prelude.{◌≡◌, ◌<◌, ◌≤◌, ◌↔◌, ℕ, List, [], Some, None, IfOk, IsErrOf, IsTrue};
 ghost use Rattle.layout.specs.StateLimits.{limits_of};
 ghost use Rattle.layout.specs.Limits.{Sizes};
-ghost use Rattle.layout.specs.Record.{KeepsMadeLimits, made_of};
+ghost use Rattle.layout.specs.Record.{KeepsMadeLimits, made_of, permissions_of_made};
+ghost use Rattle.layout.specs.Trees.{has_attributes};
 ghost use Rattle.layout.specs.declared.inode.Inode.{Inode};
 ghost use Rattle.model.specs.Records.{IsMade, is_vacant, node_of};
 ghost use Rattle.layout.specs.LinkText.{IsLinkText};
 ghost use Rattle.layout.specs.declared.limits.TheConstants.{PATH_BYTES};
 ghost use Rattle.model.specs.Volumes.{directory_node, file_node, link_node};
-ghost use Rattle.model.specs.Attributes.{new_attributes};
-ghost use Rattle.model.specs.declared.limits.TheConstants.{LINK_MODE, MODE_BITS};
+ghost use Rattle.model.specs.Attributes.{FitAttributes, new_attributes};
+ghost use Rattle.model.specs.declared.limits.TheConstants.{LINK_MODE};
 ghost use Rattle.buffers.specs.Reads.{ReadsBlocks};
 ghost use Rattle.buffers.specs.Errors.{IsFault};
 ghost use Rattle.images.specs.Soundness.{Detail};
@@ -25,7 +26,7 @@ use entries::Known;
 use inode::{ChangeError, File, Object, Status};
 use inofile::InodeFile;
 use layout::{FIRST_NUMBER, InodeNumber, Kind, Layout, NewObject, is_link_text};
-use model::{Attributes, MODE_BITS, Mode};
+use model::{Attributes, LINK_MODE, Permissions};
 use std::alloc::Global;
 
 /// Whether nothing has a number, or an orphan.
@@ -50,15 +51,27 @@ pub fn is_vacant<B: Blocks>(
     }
 }
 
-/// Whether what a record makes keeps to the limits.
-pub(crate) fn is_made(object: &NewObject<'_>) -> bool
-    ensures { (s : Sizes) → IsTrue result ↔ IsMade (limits_of s) (made_of object.now) }
+/// Whether what a record makes keeps to the limits of an image of this layout.
+pub(crate) fn is_made(layout: Layout, object: &NewObject<'_>) -> bool
+    ensures { (s : Sizes) → s.layout ≡ layout
+        → IsTrue result ↔ IsMade (limits_of s) (made_of object.now) }
 {
     match object {
-        NewObject::Directory { mode } => mode.bits() <= MODE_BITS,
-        NewObject::File { mode } => mode.bits() <= MODE_BITS,
-        NewObject::Link { text } => is_link_text(text),
+        NewObject::Directory { permissions } => are_kept(layout, *permissions),
+        NewObject::File { permissions } => are_kept(layout, *permissions),
+        NewObject::Link { permissions, text } => {
+            are_kept(layout, *permissions)
+                && permissions.mode.bits() == LINK_MODE
+                && is_link_text(text)
+        }
     }
+}
+
+// Whether an object of an image of this layout may be made with these permissions.
+fn are_kept(layout: Layout, permissions: Permissions) -> bool
+    ensures { IsTrue result ↔ FitAttributes (has_attributes layout) (new_attributes permissions) }
+{
+    Attributes::new(permissions).are_kept(layout.has_attributes())
 }
 
 /// The object that a record makes in an image of this layout, with its one name.
@@ -68,7 +81,9 @@ pub fn new_object<B: Blocks>(
     blocks: &mut B,
     object: &NewObject<'_>,
 ) -> Result<Object, BlockError>
-    requires { KeepsMadeLimits (made_of object.now) }
+    requires limits { KeepsMadeLimits (made_of object.now) }
+    requires kept { FitAttributes (has_attributes layout)
+        (new_attributes (permissions_of_made (made_of object.now))) }
     ensures reads { ReadsBlocks B.Blocks IsFault blocks.old blocks.new result }
     ensures object { (detail : Detail) (disk : ℕ → List ℕ) → B.Shows blocks.old disk → IfOk result
         (λ o. (inodes : ℕ) (settled : Inode) → settled.layout ≡ layout
@@ -78,9 +93,11 @@ pub fn new_object<B: Blocks>(
         → IsErrOf result BlockError.Damaged → ⊥ }
 {
     match object {
-        NewObject::Directory { mode } => Ok(new_directory(alloc, layout, *mode)),
-        NewObject::File { mode } => Ok(new_file(alloc, layout, *mode)),
-        NewObject::Link { text } => new_link(alloc, layout, blocks, text),
+        NewObject::Directory { permissions } => Ok(new_directory(alloc, layout, *permissions)),
+        NewObject::File { permissions } => Ok(new_file(alloc, layout, *permissions)),
+        NewObject::Link { permissions, text } => {
+            new_link(alloc, layout, blocks, *permissions, text)
+        }
     }
 }
 
@@ -89,14 +106,17 @@ fn new_link<B: Blocks>(
     alloc: Global,
     layout: Layout,
     blocks: &mut B,
+    permissions: Permissions,
     text: &[u8],
 ) -> Result<Object, BlockError>
-    requires { IsLinkText PATH_BYTES text.now }
+    requires text { IsLinkText PATH_BYTES text.now }
+    requires mode { permissions.mode ≡ LINK_MODE }
+    requires kept { FitAttributes (has_attributes layout) (new_attributes permissions) }
     ensures reads { ReadsBlocks B.Blocks IsFault blocks.old blocks.new result }
     ensures object { (detail : Detail) (disk : ℕ → List ℕ) → B.Shows blocks.old disk → IfOk result
         (λ o. (inodes : ℕ) (settled : Inode) → settled.layout ≡ layout
         → IsObjectIn detail disk inodes settled o
-        (Some (link_node (new_attributes LINK_MODE) text.now))) }
+        (Some (link_node (new_attributes permissions) text.now))) }
     ensures room { IfOk result HasRoomOfNew }
     ensures damaged { (disk : ℕ → List ℕ) → B.Shows blocks.old disk
         → IsErrOf result BlockError.Damaged → ⊥ }
@@ -110,7 +130,7 @@ fn new_link<B: Blocks>(
         Err(ChangeError::TooBig) => unreachable!(),
     };
     file.commit(change);
-    let attributes = Attributes::of_link();
+    let attributes = Attributes::new(permissions);
     let status = Status::new(Kind::Link, attributes);
     Ok(Object {
         status,
@@ -120,16 +140,14 @@ fn new_link<B: Blocks>(
 }
 
 // A file of one name without bytes.
-fn new_file(alloc: Global, layout: Layout, mode: Mode) -> Object
+fn new_file(alloc: Global, layout: Layout, permissions: Permissions) -> Object
+    requires { FitAttributes (has_attributes layout) (new_attributes permissions) }
     ensures object { (detail : Detail) (disk : ℕ → List ℕ) (inodes : ℕ) (settled : Inode)
         → settled.layout ≡ layout → IsObjectIn detail disk inodes settled result
-        (Some (file_node (new_attributes mode) 1 [])) }
+        (Some (file_node (new_attributes permissions) 1 [])) }
     ensures room { file_room result.file ≡ 0 }
-    ensures good { mode ≤ MODE_BITS }
 {
-    // The type of a mode holds it to its bits.
-    let _ = mode.bits();
-    let attributes = Attributes::new(mode);
+    let attributes = Attributes::new(permissions);
     let status = Status::new(Kind::File, attributes);
     Object {
         status,
@@ -139,16 +157,14 @@ fn new_file(alloc: Global, layout: Layout, mode: Mode) -> Object
 }
 
 /// A directory without names.
-pub(crate) fn new_directory(alloc: Global, layout: Layout, mode: Mode) -> Object
+pub(crate) fn new_directory(alloc: Global, layout: Layout, permissions: Permissions) -> Object
+    requires { FitAttributes (has_attributes layout) (new_attributes permissions) }
     ensures object { (detail : Detail) (disk : ℕ → List ℕ) (inodes : ℕ) (settled : Inode)
         → settled.layout ≡ layout → IsObjectIn detail disk inodes settled result
-        (Some (directory_node (new_attributes mode) (λ name. None))) }
+        (Some (directory_node (new_attributes permissions) (λ name. None))) }
     ensures room { file_room result.file ≡ 0 }
-    ensures good { mode ≤ MODE_BITS }
 {
-    // The type of a mode holds it to its bits.
-    let _ = mode.bits();
-    let attributes = Attributes::new(mode);
+    let attributes = Attributes::new(permissions);
     let status = Status::new(Kind::Directory, attributes);
     Object {
         status,

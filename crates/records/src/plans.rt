@@ -65,14 +65,14 @@ pub(crate) fn plan_create<B: Blocks>(
     if n < FIRST_NUMBER || n >= inodes.geometry().inodes() {
         return Err(Failure::Refused(Errno::DAMAGED));
     }
-    if !is_made(object) {
+    let layout = inodes.geometry().layout();
+    if !is_made(layout, object) {
         return Err(Failure::Refused(Errno::DAMAGED));
     }
     let vacant = is_vacant(alloc, inodes, blocks, number)?;
     if !vacant {
         return Err(Failure::Refused(Errno::DAMAGED));
     }
-    let layout = inodes.geometry().layout();
     let new = new_object(alloc, layout, blocks, object)?;
     plan_new(alloc, inodes, blocks, number, parent, name, new)
 }

@@ -25,7 +25,7 @@ ghost use Rattle.records.specs.Room.{HasRoomOfNew};
 ghost use Rattle.records.specs.Shown.{NeverDamagedIn, OnVolumesIn};
 
 use crate::Failure;
-use crate::chmod::prepare_mode;
+use crate::attributes::prepare_attributes;
 use crate::contents::{Rewrite, prepare_bytes};
 use crate::links::prepare_link;
 use crate::marks::{Marks, commit_marks, load_marked};
@@ -105,8 +105,18 @@ pub fn prepare<B: Blocks>(
             *new_parent,
             new_name,
         ),
-        Edit::ChangeMode { number, mode } => prepare_mode(
-            alloc, inodes, blocks, time, *number, *mode,
+        Edit::ChangeAttributes {
+            number,
+            permissions,
+            modified,
+        } => prepare_attributes(
+            alloc,
+            inodes,
+            blocks,
+            time,
+            *number,
+            *permissions,
+            *modified,
         ),
         Edit::SetFile { number, mode, size } => {
             let rewrite = Rewrite::Set {

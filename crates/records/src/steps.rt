@@ -2,7 +2,9 @@
 
 ghost use Rattle.std.specs.Prelude.{◌+◌, ◌≤◌, ◌||◌, ℕ, List, Option, Some, IsTrue};
 ghost use Rattle.layout.specs.declared.inode.Inode.{Inode};
-ghost use Rattle.model.specs.Records.{with_file_bytes, with_node_mode};
+ghost use Rattle.layout.specs.Trees.{has_attributes};
+ghost use Rattle.model.specs.Attributes.{set_given};
+ghost use Rattle.model.specs.Records.{TakesGiven, with_file_bytes, with_node_attributes, with_node_mode};
 ghost use Rattle.model.specs.Volumes.{Node, is_directory_node, is_file_node};
 ghost use Rattle.layout.specs.declared.limits.TheConstants.{FILE_NAMES};
 ghost use Rattle.images.specs.Soundness.{Detail};
@@ -20,7 +22,7 @@ use dirs::Edit;
 use inode::{FileUpdate, Object};
 use inofile::InodeFile;
 use layout::InodeNumber;
-use model::Mode;
+use model::{Mode, Permissions, Time};
 
 /// What becomes of an object.
 #[derive(Drop)]
@@ -29,8 +31,8 @@ pub(crate) enum Update {
     Set(Option<Object>),
     /// The directory has these names.
     Names(Edit),
-    /// The file or directory has this mode.
-    SetMode(Mode),
+    /// The object has these permissions and this time of its data.
+    Attributes(Permissions, Time),
     /// The file has the bytes that this change gives it, and this mode, where it is given.
     Bytes(FileUpdate, Option<Mode>),
     /// The file has so many names.
@@ -82,7 +84,7 @@ fn update_object(object: &mut Option<Object>, update: Update)
     match update {
         Update::Set(new) => *object = new,
         Update::Names(edit) => commit_edit(object, edit),
-        Update::SetMode(mode) => set_mode(object, mode),
+        Update::Attributes(permissions, modified) => set_attributes(object, permissions, modified),
         Update::Bytes(change, mode) => commit_file(object, change, mode),
         Update::Links(links) => set_links(object, links),
     }
@@ -103,6 +105,20 @@ fn commit_file(object: &mut Option<Object>, change: FileUpdate, mode: Option<Mod
     match mode {
         Some(mode) => set_mode(object, mode),
         None => {}
+    }
+}
+
+// Gives an object other permissions and another time of its data.
+fn set_attributes(object: &mut Option<Object>, permissions: Permissions, modified: Time)
+    ensures sets { (detail : Detail) (disk : ℕ → List ℕ) (inodes : ℕ) (settled : Inode)
+        (found : Option Node) → IsObjectOrNone detail disk inodes settled object.old found
+        → TakesGiven (has_attributes settled.layout) found permissions modified
+        → IsObjectOrNone detail disk inodes settled object.new
+        (with_node_attributes (set_given permissions modified) found) }
+    ensures room { RaisesFile object.old object.new 0 }
+{
+    if let Some(object) = object {
+        object.status.attributes = object.status.attributes.given(permissions, modified);
     }
 }
 

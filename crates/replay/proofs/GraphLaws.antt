@@ -1,8 +1,9 @@
 -- What names and numbers keep, where the limits of objects aren't known.
 use Rattle.std.proofs.Common.{◌∙◌, ◌≡◌, inr, ℕ, List, Option, Some, None, IsSome, false, is_some, ap, sym, refl, [], ◌∷◌}
 use Rattle.model.specs.declared.limits.Limits.{Limits}
-use Rattle.model.specs.Records.{Applies, CanEdit, Change, Edit, applied, change_mode, create, edited, marked_nodes, set_file, touches_of, truncate, link, node_of, rename, remove_name, with_bits, with_file_bytes, with_node_attributes, with_size, without_orphans, write}
-use Rattle.model.specs.Attributes.{set_mode}
+use Rattle.model.specs.Records.{Applies, CanEdit, Change, Edit, applied, change_attributes, create, edited, marked_nodes, set_file, touches_of, truncate, link, node_of, rename, remove_name, with_file_bytes, with_node_attributes, with_size, without_orphans, write}
+use Rattle.model.specs.declared.attributes.Attributes.{Attributes}
+use Rattle.model.specs.Attributes.{set_given, set_mode}
 use Rattle.model.specs.Touches.{Touches}
 use Rattle.model.specs.declared.time.Time.{Time}
 use Rattle.model.specs.Edits.{resized, written}
@@ -30,9 +31,8 @@ module _ (limits : Limits) (v : Volume) (has : HasGraph limits.inodes v) where
       (bytes_by is_some (λ attributes links a b. refl) f (v n)) (bytes_links f (v n)))
       (bytes_by is_some (λ attributes links a b. refl) f (v n))
 
-  mode_changed : (n mode : ℕ) → HasGraph limits.inodes (with_bits n mode v)
-  mode_changed n mode =
-      let f = set_mode mode in
+  attributes_changed : (n : ℕ) (f : Attributes → Attributes) → HasGraph limits.inodes (with_node n (with_node_attributes f (v n)) v)
+  attributes_changed n f =
       altered n (with_node_attributes f (v n))
       (graph-altered v has.graph n (with_node_attributes f (v n)) (attributes_names f (v n)) (attributes_file f (v n)) (attributes_directory f (v n)) (attributes_is_some f (v n)) (attributes_links f (v n)))
       (attributes_is_some f (v n))
@@ -66,8 +66,8 @@ module _ (limits : Limits) (v : Volume) (has : HasGraph limits.inodes v) where
   }
   edit_kept (write n offset bytes) can = bytes_changed limits v has n (written offset bytes)
   edit_kept (truncate n size) can = bytes_changed limits v has n (resized size)
-  edit_kept (change_mode n mode) can = mode_changed limits v has n mode
-  edit_kept (set_file n mode size) can = mode_changed limits (with_size n size v) (bytes_changed limits v has n (resized size)) n mode
+  edit_kept (change_attributes n permissions modified) can = attributes_changed limits v has n (set_given permissions modified)
+  edit_kept (set_file n mode size) can = attributes_changed limits (with_size n size v) (bytes_changed limits v has n (resized size)) n (set_mode mode)
 
 -- so does what it touches
 marked_kept : (inodes : ℕ) (time : Option Time) (touches : Touches) (v : Volume) → HasGraph inodes v → HasGraph inodes (marked_nodes time touches v)

@@ -38,7 +38,7 @@ pub fn size_before(inodes: &InodeFile, logged: &Record<'_>) -> u64
         | Edit::Link { .. }
         | Edit::RemoveName { .. }
         | Edit::Rename { .. }
-        | Edit::ChangeMode { .. } => 0,
+        | Edit::ChangeAttributes { .. } => 0,
     }
 }
 
@@ -79,7 +79,7 @@ pub fn cost_of(costs: Costs, logged: &Record<'_>, size: u64) -> u64
             2 * touched(offset, bytes.len()) + u64::from(more)
         }
         Edit::Truncate { .. } | Edit::SetFile { .. } => u64::from(costs.file),
-        Edit::ChangeMode { .. } => u64::from(costs.mode),
+        Edit::ChangeAttributes { .. } => u64::from(costs.mode),
     }
 }
 
@@ -115,7 +115,7 @@ pub fn headroom_of(costs: Costs, logged: &Record<'_>, size: u64) -> u64
     ensures bounded { result < 2 ^ 32 }
 {
     match logged.edit {
-        Edit::RemoveName { .. } | Edit::ChangeMode { .. } => 0,
+        Edit::RemoveName { .. } | Edit::ChangeAttributes { .. } => 0,
         Edit::Truncate { size: new, .. } => headroom_to(costs, size, new),
         Edit::SetFile { size: new, .. } => headroom_to(costs, size, new),
         _ => u64::from(costs.headroom),

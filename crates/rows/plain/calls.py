@@ -60,6 +60,11 @@ def shown_figures(system, number):
     return b'number %d kind %s mode %04o links %d size %d' % figures_of(system, number)
 
 
+def unkept(_system, _words):
+    """What is about owners or times. No image that is known here keeps any, whatever the path and the numbers are."""
+    return refuse('ENOTSUP')
+
+
 # Calls that read by a path
 
 

@@ -43,9 +43,10 @@ ENTRIES = [1, 1, 2, 3, 5, 1024]
 ODD_ENTRIES = [0, 1025, 4294967295]
 SECONDS = [0, 5, -1, 2 ** 31, 2 ** 63 - 1, -2 ** 63]
 NANOSECONDS = [0, 7, 999999999, 1000000000, 2 ** 32 - 1]
-# None of the weights above names `at` or `fchmod`: they would change the lists that stand.
-ON_DESCRIPTORS = ['close', 'read', 'write', 'pread', 'pwrite', 'lseek', 'ftruncate', 'fchmod',
-                  'fstat', 'fsync']
+OWNERS = ['-', '-', '0', '1000', '4294967295']
+# None of the weights above names `fchmod`, nor what is about owners or times: they would change the lists that stand.
+ON_DESCRIPTORS = ['close', 'read', 'write', 'pread', 'pwrite', 'lseek', 'ftruncate', 'fchmod', 'fchown',
+                  'futimens', 'fstat', 'fattr', 'fsync']
 
 
 class Numbers(random.Random):
@@ -197,6 +198,21 @@ def mode(numbers, default):
     return '' if chosen == default else ' %04o' % chosen
 
 
+def time(numbers):
+    """A time from the Epoch on, or below it."""
+    return '%d %d' % (numbers.choice(SECONDS), numbers.choice(NANOSECONDS))
+
+
+def new_time(numbers):
+    """A time for data."""
+    return numbers.choice(['now', 'omit', time(numbers)])
+
+
+def owners(numbers):
+    """An owner and a group, each with `-` where it stays."""
+    return '%s %s' % (numbers.choice(OWNERS), numbers.choice(OWNERS))
+
+
 def on_path(numbers, system, name):
     """A command that goes by a path."""
     if name in ('open', 'openstat'):
@@ -222,6 +238,10 @@ def on_path(numbers, system, name):
     if name == 'chmod':
         chosen = numbers.choice([0o700, 0o644, 0o7777, 0])
         return 'chmod %s %04o' % (path(numbers, system), chosen)
+    if name in ('chown', 'lchown'):
+        return '%s %s %s' % (name, path(numbers, system), owners(numbers))
+    if name in ('utimens', 'lutimens'):
+        return '%s %s %s' % (name, path(numbers, system), new_time(numbers))
     if name == 'truncate':
         return 'truncate %s %d' % (path(numbers, system), size(numbers))
     if name == 'set':
@@ -258,6 +278,10 @@ def on_descriptor(numbers, system, name):
         return '%s %d' % (chosen, size(numbers))
     if name == 'fchmod':
         return '%s %04o' % (chosen, numbers.choice([0o700, 0o644, 0o7777, 0]))
+    if name == 'fchown':
+        return '%s %s' % (chosen, owners(numbers))
+    if name == 'futimens':
+        return '%s %s' % (chosen, new_time(numbers))
     return chosen
 
 
@@ -324,7 +348,9 @@ def command(numbers, system):
     if name in ('sync', 'df', 'statfs'):
         return name
     if name == 'at':
-        return 'at %d %d' % (numbers.choice(SECONDS), numbers.choice(NANOSECONDS))
+        return 'at ' + time(numbers)
+    if name == 'as':
+        return 'as %d %d' % (numbers.choice([0, 1000, 4294967295]), numbers.choice([0, 100]))
     if name not in ON_DESCRIPTORS:
         return on_path(numbers, system, name)
     if any(system.descriptors) or numbers.random() < 0.1:

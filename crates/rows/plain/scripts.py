@@ -21,16 +21,13 @@ def usage(system, _words):
     return b'usage blocks %d free %d reserved %d inodes %d taken %d' % numbers
 
 
-def at(_system, _words):
-    """The time of the calls to come. No image that is known here keeps times, whatever the numbers are."""
-    return refuse('ENOTSUP')
-
-
 COMMANDS = {
     b'list': calls.list_names,
     b'entries': calls.entries,
     b'stat': calls.stat,
     b'lstat': calls.stat,
+    b'attr': calls.unkept,
+    b'lattr': calls.unkept,
     b'readlink': calls.readlink,
     b'get': calls.get,
     b'extent': calls.extent,
@@ -42,13 +39,18 @@ COMMANDS = {
     b'rename': calls.rename,
     b'renamenew': calls.rename,
     b'chmod': calls.chmod,
+    b'chown': calls.unkept,
+    b'lchown': calls.unkept,
+    b'utimens': calls.unkept,
+    b'lutimens': calls.unkept,
     b'truncate': calls.truncate,
     b'set': calls.set_given,
     b'store': descriptors.store,
     b'sync': sync,
     b'df': free_blocks,
     b'statfs': usage,
-    b'at': at,
+    b'at': calls.unkept,
+    b'as': calls.unkept,
     b'open': descriptors.open_file,
     b'openstat': descriptors.open_file,
     b'close': descriptors.close,
@@ -59,7 +61,10 @@ COMMANDS = {
     b'lseek': descriptors.lseek,
     b'ftruncate': descriptors.ftruncate,
     b'fchmod': descriptors.fchmod,
+    b'fchown': calls.unkept,
+    b'futimens': calls.unkept,
     b'fstat': descriptors.fstat,
+    b'fattr': calls.unkept,
     b'fsync': descriptors.fsync,
     b'snap': snapshots.snap,
     b'in': snapshots.within,

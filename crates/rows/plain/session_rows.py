@@ -7,7 +7,7 @@ from model import System
 from scripts import run
 from version_1 import is_put, stored_of
 
-UNREAD = ('fail', 'fail-sync')
+UNREAD = ('fail', 'fail-sync', 'deferred', 'stop')
 
 
 def bytes_of(text):
@@ -39,8 +39,8 @@ def is_one_of(reply, expected):
 
 
 def words_of_run(line):
-    """The words of a `run` line: pairs of name and value."""
-    return [tuple(word.split('=')) for word in line.split()[1:]]
+    """The words of a `run` line: pairs of name and value, which some have none of."""
+    return [word.partition('=')[::2] for word in line.split()[1:]]
 
 
 def values_of(name, value):

@@ -7,7 +7,8 @@ from model import DESCRIPTORS, refuse
 
 MOST_SNAPSHOTS = 30
 READING = {b'list': calls.list_names, b'entries': calls.entries, b'stat': calls.stat,
-           b'lstat': calls.stat, b'readlink': calls.readlink, b'get': calls.get}
+           b'lstat': calls.stat, b'attr': calls.unkept, b'lattr': calls.unkept, b'readlink': calls.readlink,
+           b'get': calls.get}
 
 
 def snap(system, words):

@@ -51,6 +51,8 @@ call_is_call (call.List p) = refl
 call_is_call (call.Entries p o n) = refl
 call_is_call (call.Stat p) = refl
 call_is_call (call.Lstat p) = refl
+call_is_call (call.Attr p true) = refl
+call_is_call (call.Attr p false) = refl
 call_is_call (call.Readlink p) = refl
 call_is_call (call.Get p o n) = refl
 call_is_call (call.Mkdir p m) = refl
@@ -61,6 +63,10 @@ call_is_call (call.Symlink t p) = refl
 call_is_call (call.Rename p q) = refl
 call_is_call (call.RenameNew p q) = refl
 call_is_call (call.Chmod p m) = refl
+call_is_call (call.Chown p true o g) = refl
+call_is_call (call.Chown p false o g) = refl
+call_is_call (call.Utimens p true z) = refl
+call_is_call (call.Utimens p false z) = refl
 call_is_call (call.Truncate p n) = refl
 call_is_call (call.Store p o d) = refl
 call_is_call (call.Set p s) = refl
@@ -77,10 +83,14 @@ no_command verb.Pwrite e vs = absurd (cc)
 no_command verb.Lseek e vs = absurd (cc)
 no_command verb.Ftruncate e vs = absurd (cc)
 no_command verb.Fchmod e vs = absurd (cc)
+no_command verb.Fchown e vs = absurd (cc)
+no_command verb.Futimens e vs = absurd (cc)
 no_command verb.Fstat e vs = absurd (cc)
+no_command verb.Fattr e vs = absurd (cc)
 no_command verb.Fsync e vs = absurd (cc)
 no_command verb.Extent e vs = absurd (cc)
 no_command verb.At e vs = absurd (cc)
+no_command verb.As e vs = absurd (cc)
 no_command verb.Sync e vs = absurd (cc)
 no_command verb.Df e vs = absurd (cc)
 no_command verb.Statfs e vs = absurd (cc)
@@ -135,51 +145,61 @@ refused_first word [] d some none c good e = absurd (omega (arith, some))
 refused_first word (x ∷ xs) d some none c good e = by_first (word x) (map word xs) none (spelling_of c) e
 
 -- the verbs that have no fields of their own
-pub not_change : (v : Verb) → v ≢ verb.Mkdir → v ≢ verb.Rmdir → v ≢ verb.Unlink → v ≢ verb.Link → v ≢ verb.Symlink → v ≢ verb.Rename → v ≢ verb.RenameNew → v ≢ verb.Chmod → v ≢ verb.Truncate → v ≢ verb.Store → v ≢ verb.Set → Values (change_form v) → ⊥
-not_change verb.Mkdir a b c d e f g h i j k vs = a refl
-not_change verb.Rmdir a b c d e f g h i j k vs = b refl
-not_change verb.Unlink a b c d e f g h i j k vs = c refl
-not_change verb.Link a b c d e f g h i j k vs = d refl
-not_change verb.Symlink a b c d e f g h i j k vs = e refl
-not_change verb.Rename a b c d e f g h i j k vs = f refl
-not_change verb.RenameNew a b c d e f g h i j k vs = g refl
-not_change verb.Chmod a b c d e f g h i j k vs = h refl
-not_change verb.Truncate a b c d e f g h i j k vs = i refl
-not_change verb.Store a b c d e f g h i j k vs = j refl
-not_change verb.Set a b c d e f g h i j k vs = k refl
-not_change v a b c d e f g h i j k vs = vs
+pub not_change : (v : Verb) → v ≢ verb.Mkdir → v ≢ verb.Rmdir → v ≢ verb.Unlink → v ≢ verb.Link → v ≢ verb.Symlink → v ≢ verb.Rename → v ≢ verb.RenameNew → v ≢ verb.Chmod → v ≢ verb.Chown → v ≢ verb.Lchown → v ≢ verb.Utimens → v ≢ verb.Lutimens → v ≢ verb.Truncate → v ≢ verb.Store → v ≢ verb.Set → Values (change_form v) → ⊥
+not_change verb.Mkdir a b c d e f g h i j k l m n o vs = a refl
+not_change verb.Rmdir a b c d e f g h i j k l m n o vs = b refl
+not_change verb.Unlink a b c d e f g h i j k l m n o vs = c refl
+not_change verb.Link a b c d e f g h i j k l m n o vs = d refl
+not_change verb.Symlink a b c d e f g h i j k l m n o vs = e refl
+not_change verb.Rename a b c d e f g h i j k l m n o vs = f refl
+not_change verb.RenameNew a b c d e f g h i j k l m n o vs = g refl
+not_change verb.Chmod a b c d e f g h i j k l m n o vs = h refl
+not_change verb.Chown a b c d e f g h i j k l m n o vs = i refl
+not_change verb.Lchown a b c d e f g h i j k l m n o vs = j refl
+not_change verb.Utimens a b c d e f g h i j k l m n o vs = k refl
+not_change verb.Lutimens a b c d e f g h i j k l m n o vs = l refl
+not_change verb.Truncate a b c d e f g h i j k l m n o vs = m refl
+not_change verb.Store a b c d e f g h i j k l m n o vs = n refl
+not_change verb.Set a b c d e f g h i j k l m n o vs = o refl
+not_change v a b c d e f g h i j k l m n o vs = vs
 
-pub is_change : (v : Verb) → v ≢ verb.List → v ≢ verb.Entries → v ≢ verb.Stat → v ≢ verb.Lstat → v ≢ verb.Readlink → v ≢ verb.Get → call_form v ≡ change_form v
-is_change verb.List a b c d e f = absurd (a refl)
-is_change verb.Entries a b c d e f = absurd (b refl)
-is_change verb.Stat a b c d e f = absurd (c refl)
-is_change verb.Lstat a b c d e f = absurd (d refl)
-is_change verb.Readlink a b c d e f = absurd (e refl)
-is_change verb.Get a b c d e f = absurd (f refl)
-is_change v a b c d e f = refl
+pub is_change : (v : Verb) → v ≢ verb.List → v ≢ verb.Entries → v ≢ verb.Stat → v ≢ verb.Lstat → v ≢ verb.Attr → v ≢ verb.Lattr → v ≢ verb.Readlink → v ≢ verb.Get → call_form v ≡ change_form v
+is_change verb.List a b c d e f g h = absurd (a refl)
+is_change verb.Entries a b c d e f g h = absurd (b refl)
+is_change verb.Stat a b c d e f g h = absurd (c refl)
+is_change verb.Lstat a b c d e f g h = absurd (d refl)
+is_change verb.Attr a b c d e f g h = absurd (e refl)
+is_change verb.Lattr a b c d e f g h = absurd (f refl)
+is_change verb.Readlink a b c d e f g h = absurd (g refl)
+is_change verb.Get a b c d e f g h = absurd (h refl)
+is_change v a b c d e f g h = refl
 
-pub not_file : (v : Verb) → v ≢ verb.Read → v ≢ verb.Write → v ≢ verb.Pread → v ≢ verb.Pwrite → v ≢ verb.Lseek → v ≢ verb.Ftruncate → v ≢ verb.Fchmod → Values (file_form v) → ⊥
-not_file verb.Read a b c d e f g vs = a refl
-not_file verb.Write a b c d e f g vs = b refl
-not_file verb.Pread a b c d e f g vs = c refl
-not_file verb.Pwrite a b c d e f g vs = d refl
-not_file verb.Lseek a b c d e f g vs = e refl
-not_file verb.Ftruncate a b c d e f g vs = f refl
-not_file verb.Fchmod a b c d e f g vs = g refl
-not_file v a b c d e f g vs = vs
+pub not_file : (v : Verb) → v ≢ verb.Read → v ≢ verb.Write → v ≢ verb.Pread → v ≢ verb.Pwrite → v ≢ verb.Lseek → v ≢ verb.Ftruncate → v ≢ verb.Fchmod → v ≢ verb.Fchown → v ≢ verb.Futimens → Values (file_form v) → ⊥
+not_file verb.Read a b c d e f g h i vs = a refl
+not_file verb.Write a b c d e f g h i vs = b refl
+not_file verb.Pread a b c d e f g h i vs = c refl
+not_file verb.Pwrite a b c d e f g h i vs = d refl
+not_file verb.Lseek a b c d e f g h i vs = e refl
+not_file verb.Ftruncate a b c d e f g h i vs = f refl
+not_file verb.Fchmod a b c d e f g h i vs = g refl
+not_file verb.Fchown a b c d e f g h i vs = h refl
+not_file verb.Futimens a b c d e f g h i vs = i refl
+not_file v a b c d e f g h i vs = vs
 
-pub is_file : (v : Verb) → v ≢ verb.Open → v ≢ verb.OpenStat → v ≢ verb.Close → v ≢ verb.Fstat → v ≢ verb.Fsync → v ≢ verb.Extent → v ≢ verb.At → v ≢ verb.Sync → v ≢ verb.Df → v ≢ verb.Statfs → command_form v ≡ file_form v
-is_file verb.Open a b c d e f g h i j = absurd (a refl)
-is_file verb.OpenStat a b c d e f g h i j = absurd (b refl)
-is_file verb.Close a b c d e f g h i j = absurd (c refl)
-is_file verb.Fstat a b c d e f g h i j = absurd (d refl)
-is_file verb.Fsync a b c d e f g h i j = absurd (e refl)
-is_file verb.Extent a b c d e f g h i j = absurd (f refl)
-is_file verb.At a b c d e f g h i j = absurd (g refl)
-is_file verb.Sync a b c d e f g h i j = absurd (h refl)
-is_file verb.Df a b c d e f g h i j = absurd (i refl)
-is_file verb.Statfs a b c d e f g h i j = absurd (j refl)
-is_file v a b c d e f g h i j = refl
+pub is_file : (v : Verb) → v ≢ verb.Open → v ≢ verb.OpenStat → v ≢ verb.Close → v ≢ verb.Fstat → v ≢ verb.Fattr → v ≢ verb.Fsync → v ≢ verb.Extent → v ≢ verb.At → v ≢ verb.As → v ≢ verb.Sync → v ≢ verb.Df → v ≢ verb.Statfs → command_form v ≡ file_form v
+is_file verb.Open a b c d e f g h i j k l = absurd (a refl)
+is_file verb.OpenStat a b c d e f g h i j k l = absurd (b refl)
+is_file verb.Close a b c d e f g h i j k l = absurd (c refl)
+is_file verb.Fstat a b c d e f g h i j k l = absurd (d refl)
+is_file verb.Fattr a b c d e f g h i j k l = absurd (e refl)
+is_file verb.Fsync a b c d e f g h i j k l = absurd (f refl)
+is_file verb.Extent a b c d e f g h i j k l = absurd (g refl)
+is_file verb.At a b c d e f g h i j k l = absurd (h refl)
+is_file verb.As a b c d e f g h i j k l = absurd (i refl)
+is_file verb.Sync a b c d e f g h i j k l = absurd (j refl)
+is_file verb.Df a b c d e f g h i j k l = absurd (k refl)
+is_file verb.Statfs a b c d e f g h i j k l = absurd (l refl)
+is_file v a b c d e f g h i j k l = refl
 
 pub not_snapping : (v : Verb) → v ≢ verb.Take → v ≢ verb.Delete → v ≢ verb.Restore → v ≢ verb.List → Values (snap_form v) → ⊥
 not_snapping verb.Take a b c d vs = a refl
@@ -189,13 +209,13 @@ not_snapping verb.List a b c d vs = d refl
 not_snapping v a b c d vs = vs
 
 -- what is read by the last case of a form is read by the form
-pub change_read : (v : Verb) (words : List (List ℕ)) (r : Result PathCall ScriptError) → v ≢ verb.List → v ≢ verb.Entries → v ≢ verb.Stat → v ≢ verb.Lstat → v ≢ verb.Readlink → v ≢ verb.Get
+pub change_read : (v : Verb) (words : List (List ℕ)) (r : Result PathCall ScriptError) → v ≢ verb.List → v ≢ verb.Entries → v ≢ verb.Stat → v ≢ verb.Lstat → v ≢ verb.Attr → v ≢ verb.Lattr → v ≢ verb.Readlink → v ≢ verb.Get
     → ReadsFields (change_form v) call_words IsPathCallInForm (verb_name v ∷ []) words r → ReadsFields (call_form v) call_words IsPathCallInForm (verb_name v ∷ []) words r
-change_read v words r a b c d e f reads = subst (λ u. ReadsFields u call_words IsPathCallInForm (verb_name v ∷ []) words r) (sym (is_change v a b c d e f)) reads
+change_read v words r a b c d e f g h reads = subst (λ u. ReadsFields u call_words IsPathCallInForm (verb_name v ∷ []) words r) (sym (is_change v a b c d e f g h)) reads
 
-pub file_read : (v : Verb) (words : List (List ℕ)) (r : Result Command ScriptError) → v ≢ verb.Open → v ≢ verb.OpenStat → v ≢ verb.Close → v ≢ verb.Fstat → v ≢ verb.Fsync → v ≢ verb.Extent → v ≢ verb.At → v ≢ verb.Sync → v ≢ verb.Df → v ≢ verb.Statfs
+pub file_read : (v : Verb) (words : List (List ℕ)) (r : Result Command ScriptError) → v ≢ verb.Open → v ≢ verb.OpenStat → v ≢ verb.Close → v ≢ verb.Fstat → v ≢ verb.Fattr → v ≢ verb.Fsync → v ≢ verb.Extent → v ≢ verb.At → v ≢ verb.As → v ≢ verb.Sync → v ≢ verb.Df → v ≢ verb.Statfs
     → ReadsFields (file_form v) command_words IsCommandInForm (verb_name v ∷ []) words r → ReadsFields (command_form v) command_words IsCommandInForm (verb_name v ∷ []) words r
-file_read v words r a b c d e f g h i j reads = subst (λ u. ReadsFields u command_words IsCommandInForm (verb_name v ∷ []) words r) (sym (is_file v a b c d e f g h i j)) reads
+file_read v words r a b c d e f g h i j k l reads = subst (λ u. ReadsFields u command_words IsCommandInForm (verb_name v ∷ []) words r) (sym (is_file v a b c d e f g h i j k l)) reads
 
 -- what is read behind a verb is read as words
 pub call_read : (v : Verb) (words : List (List ℕ)) (r : Result PathCall ScriptError) → ReadsFields (call_form v) call_words IsPathCallInForm (verb_name v ∷ []) words r → ReadsWords call_words IsPathCallInForm (verb_name v ∷ words) r

@@ -13,13 +13,15 @@ use Rattle.model.specs.declared.command.Access.{Access}
 use Rattle.model.specs.declared.command.Access.TheVariants.{Reading, Writing, Both}
 use Rattle.model.specs.declared.command.Command.{Command}
 use Rattle.model.specs.declared.command.Flags.{Flags}
+use Rattle.model.specs.declared.command.NewTime.{NewTime}
+use Rattle.model.specs.declared.command.NewTime.TheVariants.{Omit, Now, At}
 use Rattle.model.specs.declared.command.PathCall.{PathCall}
 use Rattle.model.specs.declared.command.Whence.{Whence}
 use Rattle.model.specs.declared.command.Whence.TheVariants.{Set, Cur, End}
-use Rattle.script.specs.Forms.{bytes, count, end, field, flags, form_words, given_mode, given_offset, last_mode, mode, none, offset, text, whence, word_of, AreValues, Form, IsValue, Kind, Value, Values}
+use Rattle.script.specs.Forms.{bytes, count, end, field, flags, form_words, given_count, given_mode, given_offset, last_mode, last_time, mode, none, offset, text, whence, word_of, AreValues, Form, IsTimeValue, IsValue, Kind, Value, Values}
 use Rattle.script.specs.Lines.{call_fields, call_words, command_line, command_words, line_of, spelling_of, spelling_words, named, plain, snap, within, IsPathCallInForm, IsCommandInForm, IsSpelling, Spelling}
 use Rattle.script.specs.Verbs.{call_form, command_form, snap_form, verb_name}
-use Rattle.script.specs.Words.{access_word, byte_word, data_word, flags_word, hex_digit, is_plain, letter, mode_word, mode_words, text_word, whence_word}
+use Rattle.script.specs.Words.{access_word, byte_word, data_word, flags_word, hex_digit, is_plain, letter, mode_word, mode_words, text_word, new_time_words, whence_word}
 use Rattle.script.specs.declared.error.ScriptError.{ScriptError}
 use Rattle.script.specs.declared.verb.Verb.{Verb}
 use Rattle.script.specs.declared.verb.Verb.TheVariants as verb
@@ -144,11 +146,19 @@ value_is_word given_mode None good = letters_are_word (codes "-") refl
 value_is_word given_mode (Some m) good = mode_is_word m
 value_is_word given_offset None good = letters_are_word (codes "-") refl
 value_is_word given_offset (Some z) good = offset_is_word z good
+value_is_word given_count None good = letters_are_word (codes "-") refl
+value_is_word given_count (Some n) good = number_is_word n (small n good)
+
+time_has_words : (t : NewTime) → IsTimeValue t → AreWords (new_time_words t)
+time_has_words Omit good = (letters_are_word (codes "omit") refl, tt)
+time_has_words Now good = (letters_are_word (codes "now") refl, tt)
+time_has_words (At z n) good = (offset_is_word z good.0, (number_is_word n (small n good.1), tt))
 
 form_has_words : (f : Form) (vs : Values f) → AreValues f vs → AreWords (form_words f vs)
 form_has_words end vs good = tt
 form_has_words (field k more) (v, vs) good = (value_is_word k v good.0, form_has_words more vs good.1)
 form_has_words (last_mode default) m good = modes_are_words default m
+form_has_words last_time t good = time_has_words t good
 form_has_words none vs good = absurd vs
 
 verb_is_word : (v : Verb) → IsWord (verb_name v)
@@ -156,6 +166,8 @@ verb_is_word verb.List = letters_are_word (codes "list") refl
 verb_is_word verb.Entries = letters_are_word (codes "entries") refl
 verb_is_word verb.Stat = letters_are_word (codes "stat") refl
 verb_is_word verb.Lstat = letters_are_word (codes "lstat") refl
+verb_is_word verb.Attr = letters_are_word (codes "attr") refl
+verb_is_word verb.Lattr = letters_are_word (codes "lattr") refl
 verb_is_word verb.Readlink = letters_are_word (codes "readlink") refl
 verb_is_word verb.Get = letters_are_word (codes "get") refl
 verb_is_word verb.Mkdir = letters_are_word (codes "mkdir") refl
@@ -166,6 +178,10 @@ verb_is_word verb.Symlink = letters_are_word (codes "symlink") refl
 verb_is_word verb.Rename = letters_are_word (codes "rename") refl
 verb_is_word verb.RenameNew = letters_are_word (codes "renamenew") refl
 verb_is_word verb.Chmod = letters_are_word (codes "chmod") refl
+verb_is_word verb.Chown = letters_are_word (codes "chown") refl
+verb_is_word verb.Lchown = letters_are_word (codes "lchown") refl
+verb_is_word verb.Utimens = letters_are_word (codes "utimens") refl
+verb_is_word verb.Lutimens = letters_are_word (codes "lutimens") refl
 verb_is_word verb.Truncate = letters_are_word (codes "truncate") refl
 verb_is_word verb.Store = letters_are_word (codes "store") refl
 verb_is_word verb.Set = letters_are_word (codes "set") refl
@@ -179,10 +195,14 @@ verb_is_word verb.Pwrite = letters_are_word (codes "pwrite") refl
 verb_is_word verb.Lseek = letters_are_word (codes "lseek") refl
 verb_is_word verb.Ftruncate = letters_are_word (codes "ftruncate") refl
 verb_is_word verb.Fchmod = letters_are_word (codes "fchmod") refl
+verb_is_word verb.Fchown = letters_are_word (codes "fchown") refl
+verb_is_word verb.Futimens = letters_are_word (codes "futimens") refl
 verb_is_word verb.Fstat = letters_are_word (codes "fstat") refl
+verb_is_word verb.Fattr = letters_are_word (codes "fattr") refl
 verb_is_word verb.Fsync = letters_are_word (codes "fsync") refl
 verb_is_word verb.Extent = letters_are_word (codes "extent") refl
 verb_is_word verb.At = letters_are_word (codes "at") refl
+verb_is_word verb.As = letters_are_word (codes "as") refl
 verb_is_word verb.Sync = letters_are_word (codes "sync") refl
 verb_is_word verb.Df = letters_are_word (codes "df") refl
 verb_is_word verb.Statfs = letters_are_word (codes "statfs") refl

@@ -13,15 +13,17 @@ use Rattle.model.specs.declared.command.Access.TheVariants.{Reading, Writing, Bo
 use Rattle.model.specs.declared.command.Command.{Command}
 use Rattle.model.specs.declared.command.Command.TheVariants as command
 use Rattle.model.specs.declared.command.Flags.{Flags}
+use Rattle.model.specs.declared.command.NewTime.{NewTime}
+use Rattle.model.specs.declared.command.NewTime.TheVariants.{Omit, Now, At}
 use Rattle.model.specs.declared.command.PathCall.{PathCall}
 use Rattle.model.specs.declared.command.PathCall.TheVariants as call
 use Rattle.model.specs.declared.command.Whence.{Whence}
 use Rattle.model.specs.declared.command.Whence.TheVariants.{Set, Cur, End}
-use Rattle.script.specs.Forms.{bytes, count, end, field, flags, form_words, given_mode, given_offset, last_mode, mode, none, offset, text, whence, word_of, AreValues, Form, IsValue, Kind, Value, Values}
+use Rattle.script.specs.Forms.{bytes, count, end, field, flags, form_words, given_count, given_mode, given_offset, last_mode, last_time, mode, none, offset, text, whence, word_of, AreValues, Form, IsTimeValue, IsValue, Kind, Value, Values}
 use Rattle.script.specs.Lines.{call_fields, call_words, command_words, spelling_of, spelling_words, named, plain, snap, within, IsPathCallInForm, IsCommandInForm, IsSpelling, Spelling}
 use Rattle.script.specs.Readings.{ReadsWords}
 use Rattle.script.specs.Verbs.{call_form, command_form, is_call, snap_form, verb_name}
-use Rattle.script.specs.Words.{access_word, data_word, flags_word, letter, mode_word, mode_words, text_word, whence_word, AreByteValues}
+use Rattle.script.specs.Words.{access_word, data_word, flags_word, letter, mode_word, mode_words, text_word, new_time_words, whence_word, AreByteValues}
 use Rattle.script.specs.declared.error.ScriptError.{ScriptError}
 use Rattle.script.specs.declared.error.ScriptError.TheVariants.{NoMemory, NotACommand}
 use Rattle.script.specs.declared.verb.Verb.{Verb}
@@ -180,6 +182,9 @@ no_number (pos zero) few e = let one : decimal 0 ≡ 48 ∷ [] = decimal_digit 0
 no_number (pos (suc n)) few e = let first = first_decimal (suc n) (omega arith) (omega (arith, few)) in omega (arith, first, ap (λ (l : List ℕ). get_or l 0 0) e)
 no_number (negsuc n) few e = let some = decimal_nonempty (suc n) (omega (arith, few)) in let long = ap (length {A = ℕ}) e in omega (arith, some, long)
 
+no_count : (n : ℕ) → n < 2 ^ 32 → codes "-" ≡ decimal n → ⊥
+no_count n few e = no_number (pos n) (omega (arith, few)) e
+
 word_of-unique : (k : Kind) (v w : Value k) → IsValue k v → IsValue k w → word_of k v ≡ word_of k w → v ≡ w
 word_of-unique text v w gv gw e = text_word-unique v w gv gw e
 word_of-unique bytes v w gv gw e = data_word-unique v w gv gw e
@@ -196,6 +201,26 @@ word_of-unique given_offset None None gv gw e = refl
 word_of-unique given_offset None (Some z) gv gw e = absurd (no_number z (small_mag z gw) e)
 word_of-unique given_offset (Some y) None gv gw e = absurd (no_number y (small_mag y gv) (sym e))
 word_of-unique given_offset (Some y) (Some z) gv gw e = ap (λ k. Some k) (signed_decimal_injective y z (small_mag y gv) (small_mag z gw) e)
+word_of-unique given_count None None gv gw e = refl
+word_of-unique given_count None (Some n) gv gw e = absurd (no_count n gw e)
+word_of-unique given_count (Some m) None gv gw e = absurd (no_count m gv (sym e))
+word_of-unique given_count (Some m) (Some n) gv gw e = ap (λ k. Some k) (decimal_injective m n (small m gv) (small n gw) e)
+
+-- a time has one spelling
+new_time_words-unique : (t u : NewTime) → IsTimeValue t → IsTimeValue u → new_time_words t ≡ new_time_words u → t ≡ u
+new_time_words-unique Omit Omit gt gu e = refl
+new_time_words-unique Omit Now gt gu e = absurd (cc)
+new_time_words-unique Omit (At z n) gt gu e = absurd (cc)
+new_time_words-unique Now Omit gt gu e = absurd (cc)
+new_time_words-unique Now Now gt gu e = refl
+new_time_words-unique Now (At z n) gt gu e = absurd (cc)
+new_time_words-unique (At y m) Omit gt gu e = absurd (cc)
+new_time_words-unique (At y m) Now gt gu e = absurd (cc)
+new_time_words-unique (At y m) (At z n) gt gu e =
+    let seconds = signed_decimal_injective y z (small_mag y gt.0) (small_mag z gu.0) (same_word (signed_decimal y) (signed_decimal z) (decimal m ∷ []) (decimal n ∷ []) e) in
+    let behind = same_words (signed_decimal y) (signed_decimal z) (decimal m ∷ []) (decimal n ∷ []) e in
+    let nanoseconds = decimal_injective m n (small m gt.1) (small n gu.1) (same_word (decimal m) (decimal n) [] [] behind) in
+    ap (λ (s : ℤ). At s m) seconds ∙ ap (λ (k : ℕ). At z k) nanoseconds
 
 abbrev joined : (k : Kind) (more : Form) → Value k → Values more → Values (field k more)
 joined k more v vs = (v, vs)
@@ -209,6 +234,7 @@ form_words-unique (field k more) (v, vs) (w, ws) gv gw e = same_pair k more v w 
     (word_of-unique k v w gv.0 gw.0 (same_word (word_of k v) (word_of k w) (form_words more vs) (form_words more ws) e))
     (form_words-unique more vs ws gv.1 gw.1 (same_words (word_of k v) (word_of k w) (form_words more vs) (form_words more ws) e))
 form_words-unique (last_mode default) v w gv gw e = mode_words-unique default v w e
+form_words-unique last_time v w gv gw e = new_time_words-unique v w gv gw e
 form_words-unique none v w gv gw e = absurd v
 
 -- what a verb and its fields make is one thing
@@ -224,6 +250,8 @@ call_of verb.List (p, _) = call.List p
 call_of verb.Entries (p, (o, (n, _))) = call.Entries p o n
 call_of verb.Stat (p, _) = call.Stat p
 call_of verb.Lstat (p, _) = call.Lstat p
+call_of verb.Attr (p, _) = call.Attr p true
+call_of verb.Lattr (p, _) = call.Attr p false
 call_of verb.Readlink (p, _) = call.Readlink p
 call_of verb.Get (p, (o, (n, _))) = call.Get p o n
 call_of verb.Mkdir (p, m) = call.Mkdir p m
@@ -234,6 +262,10 @@ call_of verb.Symlink (t, (p, _)) = call.Symlink t p
 call_of verb.Rename (p, (q, _)) = call.Rename p q
 call_of verb.RenameNew (p, (q, _)) = call.RenameNew p q
 call_of verb.Chmod (p, (m, _)) = call.Chmod p m
+call_of verb.Chown (p, (o, (g, _))) = call.Chown p true o g
+call_of verb.Lchown (p, (o, (g, _))) = call.Chown p false o g
+call_of verb.Utimens (p, z) = call.Utimens p true z
+call_of verb.Lutimens (p, z) = call.Utimens p false z
 call_of verb.Truncate (p, (n, _)) = call.Truncate p n
 call_of verb.Store (p, (o, (d, _))) = call.Store p o d
 call_of verb.Set (p, (m, (z, _))) = call.Set p (record { mode = m; size = z })
@@ -245,6 +277,8 @@ call_of_fields (call.List p) = refl
 call_of_fields (call.Entries p o n) = refl
 call_of_fields (call.Stat p) = refl
 call_of_fields (call.Lstat p) = refl
+call_of_fields (call.Attr p true) = refl
+call_of_fields (call.Attr p false) = refl
 call_of_fields (call.Readlink p) = refl
 call_of_fields (call.Get p o n) = refl
 call_of_fields (call.Mkdir p m) = refl
@@ -255,6 +289,10 @@ call_of_fields (call.Symlink t p) = refl
 call_of_fields (call.Rename p q) = refl
 call_of_fields (call.RenameNew p q) = refl
 call_of_fields (call.Chmod p m) = refl
+call_of_fields (call.Chown p true o g) = refl
+call_of_fields (call.Chown p false o g) = refl
+call_of_fields (call.Utimens p true z) = refl
+call_of_fields (call.Utimens p false z) = refl
 call_of_fields (call.Truncate p n) = refl
 call_of_fields (call.Store p o d) = refl
 call_of_fields (call.Set p s) = refl
@@ -316,10 +354,14 @@ plain_command verb.Pwrite (fd, (o, (d, _))) = command.Pwrite fd o d
 plain_command verb.Lseek (fd, (w, (o, _))) = command.Lseek fd w o
 plain_command verb.Ftruncate (fd, (n, _)) = command.Ftruncate fd n
 plain_command verb.Fchmod (fd, (m, _)) = command.Fchmod fd m
+plain_command verb.Fchown (fd, (o, (g, _))) = command.Fchown fd o g
+plain_command verb.Futimens (fd, z) = command.Futimens fd z
 plain_command verb.Fstat (fd, _) = command.Fstat fd
+plain_command verb.Fattr (fd, _) = command.Fattr fd
 plain_command verb.Fsync (fd, _) = command.Fsync fd
 plain_command verb.Extent (p, (o, _)) = command.Extent p o
 plain_command verb.At (z, (n, _)) = command.At z n
+plain_command verb.As (o, (g, _)) = command.As o g
 plain_command verb.Sync _ = command.Sync
 plain_command verb.Df _ = command.Df
 plain_command verb.Statfs _ = command.Statfs
@@ -351,10 +393,14 @@ command_of_spelling (command.Pwrite fd o d) good = refl
 command_of_spelling (command.Lseek fd w o) good = refl
 command_of_spelling (command.Ftruncate fd n) good = refl
 command_of_spelling (command.Fchmod fd m) good = refl
+command_of_spelling (command.Fchown fd o g) good = refl
+command_of_spelling (command.Futimens fd z) good = refl
 command_of_spelling (command.Fstat fd) good = refl
+command_of_spelling (command.Fattr fd) good = refl
 command_of_spelling (command.Fsync fd) good = refl
 command_of_spelling (command.Extent p o) good = refl
 command_of_spelling (command.At z n) good = refl
+command_of_spelling (command.As o g) good = refl
 command_of_spelling command.Sync good = refl
 command_of_spelling command.Df good = refl
 command_of_spelling command.Statfs good = refl

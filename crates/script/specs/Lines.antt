@@ -1,5 +1,5 @@
 -- How a command is spelled: words, one space apart.
-use Rattle.std.specs.Prelude.{ℕ, ◌≡◌, List, [], ◌∷◌, ◌++◌}
+use Rattle.std.specs.Prelude.{ℕ, ◌≡◌, true, false, List, [], ◌∷◌, ◌++◌}
 use Rattle.std.specs.List.{flat_map}
 use Rattle.model.specs.declared.limits.TheConstants.{SESSION_FILES}
 use Rattle.model.specs.declared.command.Command.{Command}
@@ -27,6 +27,8 @@ call_fields (call.List path) = (verb.List, (path, tt))
 call_fields (call.Entries path after count) = (verb.Entries, (path, (after, (count, tt))))
 call_fields (call.Stat path) = (verb.Stat, (path, tt))
 call_fields (call.Lstat path) = (verb.Lstat, (path, tt))
+call_fields (call.Attr path true) = (verb.Attr, (path, tt))
+call_fields (call.Attr path false) = (verb.Lattr, (path, tt))
 call_fields (call.Readlink path) = (verb.Readlink, (path, tt))
 call_fields (call.Get path offset count) = (verb.Get, (path, (offset, (count, tt))))
 call_fields (call.Mkdir path mode) = (verb.Mkdir, (path, mode))
@@ -37,6 +39,10 @@ call_fields (call.Symlink text path) = (verb.Symlink, (text, (path, tt)))
 call_fields (call.Rename old new) = (verb.Rename, (old, (new, tt)))
 call_fields (call.RenameNew old new) = (verb.RenameNew, (old, (new, tt)))
 call_fields (call.Chmod path mode) = (verb.Chmod, (path, (mode, tt)))
+call_fields (call.Chown path true owner group) = (verb.Chown, (path, (owner, (group, tt))))
+call_fields (call.Chown path false owner group) = (verb.Lchown, (path, (owner, (group, tt))))
+call_fields (call.Utimens path true time) = (verb.Utimens, (path, time))
+call_fields (call.Utimens path false time) = (verb.Lutimens, (path, time))
 call_fields (call.Truncate path size) = (verb.Truncate, (path, (size, tt)))
 call_fields (call.Store path offset bytes) = (verb.Store, (path, (offset, (bytes, tt))))
 call_fields (call.Set path settings) = (verb.Set, (path, (settings.mode, (settings.size, tt))))
@@ -68,10 +74,14 @@ spelling_of (command.Pwrite fd offset bytes) = plain verb.Pwrite (fd, (offset, (
 spelling_of (command.Lseek fd whence offset) = plain verb.Lseek (fd, (whence, (offset, tt)))
 spelling_of (command.Ftruncate fd size) = plain verb.Ftruncate (fd, (size, tt))
 spelling_of (command.Fchmod fd mode) = plain verb.Fchmod (fd, (mode, tt))
+spelling_of (command.Fchown fd owner group) = plain verb.Fchown (fd, (owner, (group, tt)))
+spelling_of (command.Futimens fd time) = plain verb.Futimens (fd, time)
 spelling_of (command.Fstat fd) = plain verb.Fstat (fd, tt)
+spelling_of (command.Fattr fd) = plain verb.Fattr (fd, tt)
 spelling_of (command.Fsync fd) = plain verb.Fsync (fd, tt)
 spelling_of (command.Extent path offset) = plain verb.Extent (path, (offset, tt))
 spelling_of (command.At seconds nanoseconds) = plain verb.At (seconds, (nanoseconds, tt))
+spelling_of (command.As owner group) = plain verb.As (owner, (group, tt))
 spelling_of command.Sync = plain verb.Sync tt
 spelling_of command.Df = plain verb.Df tt
 spelling_of command.Statfs = plain verb.Statfs tt

@@ -1,8 +1,10 @@
 -- How a reply is spelled.
 use Rattle.std.specs.Prelude.{ℕ, List, [], ◌∷◌, ◌++◌, codes, map}
-use Rattle.std.specs.Fmt.{decimal}
+use Rattle.std.specs.Fmt.{decimal, signed_decimal}
 use Rattle.std.specs.List.{flat_map}
 use Rattle.model.specs.Errnos.{errno_name}
+use Rattle.model.specs.declared.attributes.Attributes.{Attributes}
+use Rattle.model.specs.declared.time.Time.{Time}
 use Rattle.model.specs.declared.reply.Reply.{Reply}
 use Rattle.model.specs.declared.reply.Reply.TheVariants as reply
 use Rattle.model.specs.declared.reply.Extent.{Extent}
@@ -30,6 +32,20 @@ size_words s =
 
 abbrev pub stat_words : Stat → List (List ℕ)
 stat_words s = kind_words s ++ size_words s
+
+-- a time: its seconds and nanoseconds
+abbrev pub time_words : Time → List (List ℕ)
+time_words t = signed_decimal t.seconds ∷ decimal t.nanoseconds ∷ []
+
+-- the words of the attributes beside the mode
+abbrev pub owner_words : Attributes → List (List ℕ)
+owner_words a = codes "owner" ∷ decimal a.owner ∷ codes "group" ∷ decimal a.group ∷ []
+
+abbrev pub times_words : Attributes → List (List ℕ)
+times_words a = codes "data" ∷ time_words a.modified ++ codes "status" ∷ time_words a.changed
+
+abbrev pub attribute_words : Attributes → List (List ℕ)
+attribute_words a = (owner_words a ++ times_words a) ++ codes "generation" ∷ decimal a.generation ∷ []
 
 -- the same without a name for each of them
 abbrev pub figure_words : Stat → List (List ℕ)
@@ -65,6 +81,7 @@ reply_words (reply.Names names) = codes "names" ∷ map text_word names
 reply_words (reply.Entries entries) = codes "entries" ∷ flat_map entry_words entries
 reply_words (reply.Snaps names) = codes "snaps" ∷ map text_word names
 reply_words (reply.Stat stat) = codes "stat" ∷ stat_words stat
+reply_words (reply.Attributes stat attributes) = codes "attr" ∷ stat_words stat ++ attribute_words attributes
 reply_words (reply.Extent extent) = codes "extent" ∷ extent_words extent
 reply_words (reply.Space blocks free pledged) =
     codes "blocks" ∷ decimal blocks ∷ codes "free" ∷ decimal free ∷ codes "pledged" ∷ decimal pledged ∷ []

@@ -2,7 +2,7 @@
 use Rattle.std.specs.Prelude.{ℕ, Bool, true, false, List, codes}
 use Rattle.script.specs.declared.verb.Verb.{Verb}
 use Rattle.script.specs.declared.verb.Verb.TheVariants as verb
-use Rattle.script.specs.Forms.{end, field, last_mode, none, Form}
+use Rattle.script.specs.Forms.{end, field, last_mode, last_time, none, Form}
 use Rattle.script.specs.Forms as form
 
 abbrev pub verb_name : Verb → List ℕ
@@ -10,6 +10,8 @@ verb_name verb.List = codes "list"
 verb_name verb.Entries = codes "entries"
 verb_name verb.Stat = codes "stat"
 verb_name verb.Lstat = codes "lstat"
+verb_name verb.Attr = codes "attr"
+verb_name verb.Lattr = codes "lattr"
 verb_name verb.Readlink = codes "readlink"
 verb_name verb.Get = codes "get"
 verb_name verb.Mkdir = codes "mkdir"
@@ -20,6 +22,10 @@ verb_name verb.Symlink = codes "symlink"
 verb_name verb.Rename = codes "rename"
 verb_name verb.RenameNew = codes "renamenew"
 verb_name verb.Chmod = codes "chmod"
+verb_name verb.Chown = codes "chown"
+verb_name verb.Lchown = codes "lchown"
+verb_name verb.Utimens = codes "utimens"
+verb_name verb.Lutimens = codes "lutimens"
 verb_name verb.Truncate = codes "truncate"
 verb_name verb.Store = codes "store"
 verb_name verb.Set = codes "set"
@@ -33,10 +39,14 @@ verb_name verb.Pwrite = codes "pwrite"
 verb_name verb.Lseek = codes "lseek"
 verb_name verb.Ftruncate = codes "ftruncate"
 verb_name verb.Fchmod = codes "fchmod"
+verb_name verb.Fchown = codes "fchown"
+verb_name verb.Futimens = codes "futimens"
 verb_name verb.Fstat = codes "fstat"
+verb_name verb.Fattr = codes "fattr"
 verb_name verb.Fsync = codes "fsync"
 verb_name verb.Extent = codes "extent"
 verb_name verb.At = codes "at"
+verb_name verb.As = codes "as"
 verb_name verb.Sync = codes "sync"
 verb_name verb.Df = codes "df"
 verb_name verb.Statfs = codes "statfs"
@@ -52,6 +62,8 @@ is_call verb.List = true
 is_call verb.Entries = true
 is_call verb.Stat = true
 is_call verb.Lstat = true
+is_call verb.Attr = true
+is_call verb.Lattr = true
 is_call verb.Readlink = true
 is_call verb.Get = true
 is_call verb.Mkdir = true
@@ -62,10 +74,18 @@ is_call verb.Symlink = true
 is_call verb.Rename = true
 is_call verb.RenameNew = true
 is_call verb.Chmod = true
+is_call verb.Chown = true
+is_call verb.Lchown = true
+is_call verb.Utimens = true
+is_call verb.Lutimens = true
 is_call verb.Truncate = true
 is_call verb.Store = true
 is_call verb.Set = true
 is_call v = false
+
+-- an owner and a group, each where one is given
+abbrev pub owners_form : Form
+owners_form = field form.given_count (field form.given_count end)
 
 -- the fields of a call that changes the tree; a new directory has mode 0755 unless another is
 -- written
@@ -78,6 +98,10 @@ change_form verb.Symlink = field form.text (field form.text end)
 change_form verb.Rename = field form.text (field form.text end)
 change_form verb.RenameNew = field form.text (field form.text end)
 change_form verb.Chmod = field form.text (field form.mode end)
+change_form verb.Chown = field form.text owners_form
+change_form verb.Lchown = field form.text owners_form
+change_form verb.Utimens = field form.text last_time
+change_form verb.Lutimens = field form.text last_time
 change_form verb.Truncate = field form.text (field form.offset end)
 change_form verb.Store = field form.text (field form.offset (field form.bytes end))
 change_form verb.Set = field form.text (field form.given_mode (field form.given_offset end))
@@ -89,12 +113,14 @@ call_form verb.List = field form.text end
 call_form verb.Entries = field form.text (field form.offset (field form.count end))
 call_form verb.Stat = field form.text end
 call_form verb.Lstat = field form.text end
+call_form verb.Attr = field form.text end
+call_form verb.Lattr = field form.text end
 call_form verb.Readlink = field form.text end
 call_form verb.Get = field form.text (field form.offset (field form.count end))
 call_form v = change_form v
 
--- the fields of a command that moves bytes of an open file, or its offset, or changes its size or
--- its mode
+-- the fields of a command that moves bytes of an open file, or its offset, or changes its size, its
+-- mode, its owners or its time
 abbrev pub file_form : Verb → Form
 file_form verb.Read = field form.count (field form.count end)
 file_form verb.Write = field form.count (field form.bytes end)
@@ -103,6 +129,8 @@ file_form verb.Pwrite = field form.count (field form.offset (field form.bytes en
 file_form verb.Lseek = field form.count (field form.whence (field form.offset end))
 file_form verb.Ftruncate = field form.count (field form.offset end)
 file_form verb.Fchmod = field form.count (field form.mode end)
+file_form verb.Fchown = field form.count owners_form
+file_form verb.Futimens = field form.count last_time
 file_form v = none
 
 -- the fields of other commands; a new file has mode 0644 unless another is written
@@ -111,9 +139,11 @@ command_form verb.Open = field form.text (field form.flags (last_mode 0o644))
 command_form verb.OpenStat = field form.text (field form.flags (last_mode 0o644))
 command_form verb.Close = field form.count end
 command_form verb.Fstat = field form.count end
+command_form verb.Fattr = field form.count end
 command_form verb.Fsync = field form.count end
 command_form verb.Extent = field form.text (field form.offset end)
 command_form verb.At = field form.offset (field form.count end)
+command_form verb.As = field form.count (field form.count end)
 command_form verb.Sync = end
 command_form verb.Df = end
 command_form verb.Statfs = end

@@ -1,10 +1,13 @@
 -- How each kind of field is spelled as a word of a line.
 use Rattle.std.specs.Prelude.{◌≡◌, ℕ, ◌<◌, ◌+◌, ◌/◌, ◌%◌, ◌==◌, Bool, true, false, nat_lt, nat_le, ◌&&◌, not, List, [], ◌∷◌, ◌++◌, All, if◌then◌else◌, codes, Option, Some, None}
+use Rattle.std.specs.Fmt.{decimal, signed_decimal}
 use Rattle.std.specs.Global.{Vec}
 use Rattle.std.specs.List.{flat_map, slice_split}
 use Rattle.model.specs.declared.command.Access.{Access}
 use Rattle.model.specs.declared.command.Access.TheVariants.{Reading, Writing, Both}
 use Rattle.model.specs.declared.command.Flags.{Flags}
+use Rattle.model.specs.declared.command.NewTime.{NewTime}
+use Rattle.model.specs.declared.command.NewTime.TheVariants.{Omit, Now, At}
 use Rattle.model.specs.declared.command.Whence.{Whence}
 use Rattle.model.specs.declared.command.Whence.TheVariants.{Set, Cur, End}
 use Rattle.hex.specs.Hex.{encode_lower}
@@ -73,6 +76,12 @@ abbrev pub whence_word : Whence → List ℕ
 whence_word Set = codes "set"
 whence_word Cur = codes "cur"
 whence_word End = codes "end"
+
+-- the last words of a line, a time: its seconds and its nanoseconds, or 'now', or 'omit'
+abbrev pub new_time_words : NewTime → List (List ℕ)
+new_time_words Omit = codes "omit" ∷ []
+new_time_words Now = codes "now" ∷ []
+new_time_words (At seconds nanoseconds) = signed_decimal seconds ∷ decimal nanoseconds ∷ []
 
 -- the word of a value where one is given, and '-' where none is
 abbrev pub given_word : {X : Type 0} → (X → List ℕ) → Option X → List ℕ

@@ -63,6 +63,20 @@ pub(crate) fn read_fields(
             let Then(path, End) = Fields::read(alloc, words)?;
             Ok(PathCall::Lstat { path })
         }
+        Verb::Attr => {
+            let Then(path, End) = Fields::read(alloc, words)?;
+            Ok(PathCall::Attr {
+                path,
+                follows: true,
+            })
+        }
+        Verb::Lattr => {
+            let Then(path, End) = Fields::read(alloc, words)?;
+            Ok(PathCall::Attr {
+                path,
+                follows: false,
+            })
+        }
         Verb::Readlink => {
             let Then(path, End) = Fields::read(alloc, words)?;
             Ok(PathCall::Readlink { path })
@@ -116,6 +130,40 @@ fn read_change(alloc: Global, verb: Verb, words: &[&[u8]]) -> Result<PathCall<'s
         Verb::Chmod => {
             let Then(path, Then(mode, End)) = Fields::read(alloc, words)?;
             Ok(PathCall::Chmod { path, mode })
+        }
+        Verb::Chown => {
+            let Then(path, Then(owner, Then(group, End))) = Fields::read(alloc, words)?;
+            Ok(PathCall::Chown {
+                path,
+                follows: true,
+                owner,
+                group,
+            })
+        }
+        Verb::Lchown => {
+            let Then(path, Then(owner, Then(group, End))) = Fields::read(alloc, words)?;
+            Ok(PathCall::Chown {
+                path,
+                follows: false,
+                owner,
+                group,
+            })
+        }
+        Verb::Utimens => {
+            let Then(path, time) = Fields::read(alloc, words)?;
+            Ok(PathCall::Utimens {
+                path,
+                follows: true,
+                time,
+            })
+        }
+        Verb::Lutimens => {
+            let Then(path, time) = Fields::read(alloc, words)?;
+            Ok(PathCall::Utimens {
+                path,
+                follows: false,
+                time,
+            })
         }
         Verb::Truncate => {
             let Then(path, Then(size, End)) = Fields::read(alloc, words)?;

@@ -143,6 +143,10 @@ fn read_plain(alloc: Global, verb: Verb, words: &[&[u8]]) -> Result<Command<'sta
             let Then(fd, End) = Fields::read(alloc, words)?;
             Ok(Command::Fstat { fd })
         }
+        Verb::Fattr => {
+            let Then(fd, End) = Fields::read(alloc, words)?;
+            Ok(Command::Fattr { fd })
+        }
         Verb::Fsync => {
             let Then(fd, End) = Fields::read(alloc, words)?;
             Ok(Command::Fsync { fd })
@@ -158,6 +162,10 @@ fn read_plain(alloc: Global, verb: Verb, words: &[&[u8]]) -> Result<Command<'sta
                 nanoseconds,
             })
         }
+        Verb::As => {
+            let Then(owner, Then(group, End)) = Fields::read(alloc, words)?;
+            Ok(Command::As { owner, group })
+        }
         Verb::Sync => read_alone(Command::Sync, words),
         Verb::Df => read_alone(Command::Df, words),
         Verb::Statfs => read_alone(Command::Statfs, words),
@@ -166,7 +174,7 @@ fn read_plain(alloc: Global, verb: Verb, words: &[&[u8]]) -> Result<Command<'sta
 }
 
 /// The command that a first word and its fields spell, one that moves bytes of an open file, or its
-/// offset, or changes its size or its mode.
+/// offset, or changes its size, its mode, its owners or its time.
 fn read_file(alloc: Global, verb: Verb, words: &[&[u8]]) -> Result<Command<'static>, ScriptError>
     ensures { ReadsFields (file_form verb) command_words IsCommandInForm (verb_name verb ∷ [])
         (map (λ word. word.now) words.now) result }
@@ -199,6 +207,14 @@ fn read_file(alloc: Global, verb: Verb, words: &[&[u8]]) -> Result<Command<'stat
         Verb::Fchmod => {
             let Then(fd, Then(mode, End)) = Fields::read(alloc, words)?;
             Ok(Command::Fchmod { fd, mode })
+        }
+        Verb::Fchown => {
+            let Then(fd, Then(owner, Then(group, End))) = Fields::read(alloc, words)?;
+            Ok(Command::Fchown { fd, owner, group })
+        }
+        Verb::Futimens => {
+            let Then(fd, time) = Fields::read(alloc, words)?;
+            Ok(Command::Futimens { fd, time })
         }
         _ => Err(ScriptError::NotACommand),
     }

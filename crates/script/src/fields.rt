@@ -1,15 +1,16 @@
 //! The fields of a command: each is a word, read as the value that it spells.
 
 ghost use Rattle.std.specs.Prelude.{map};
-ghost use Rattle.script.specs.Forms.{end, field, last_mode, Form, Kind, Value, Values};
+ghost use Rattle.script.specs.Forms.{end, field, last_mode, last_time, Form, Kind, Value, Values};
 ghost use Rattle.script.specs.Forms as form;
 ghost use Rattle.script.specs.Readings.{ReadsForm, ReadsWord};
 
 use crate::ScriptError;
 use crate::flags::{read_flags, read_whence};
 use crate::numbers::{read_count, read_offset};
+use crate::times::read_time;
 use crate::words::{NOT_GIVEN, read_data, read_mode, read_text};
-use model::{Bytes, Flags, Mode, Whence};
+use model::{Bytes, Flags, Mode, NewTime, Whence};
 use std::alloc::Global;
 
 /// What is spelled by one word.
@@ -94,6 +95,16 @@ impl<const DEFAULT: u16> Fields for ModeOr<DEFAULT> {
             }
             _ => Err(ScriptError::NotACommand),
         }
+    }
+}
+
+impl Fields for NewTime {
+    ghost form = { last_time };
+
+    ghost values = { λ time. time };
+
+    fn read(alloc: Global, words: &[&[u8]]) -> Result<NewTime, ScriptError> {
+        read_time(alloc, words)
     }
 }
 
@@ -190,5 +201,18 @@ impl Word for Option<i64> {
             return Ok(None);
         }
         Ok(Some(read_offset(alloc, word)?))
+    }
+}
+
+impl Word for Option<u32> {
+    ghost kind = { form.given_count };
+
+    ghost value = { λ count. count };
+
+    fn read(alloc: Global, word: &[u8]) -> Result<Option<u32>, ScriptError> {
+        if word == NOT_GIVEN {
+            return Ok(None);
+        }
+        Ok(Some(read_count(alloc, word)?))
     }
 }

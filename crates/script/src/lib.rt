@@ -16,6 +16,7 @@ mod numbers;
 mod replies;
 mod spelling;
 mod splitting;
+mod times;
 mod verb;
 mod words;
 mod writing;

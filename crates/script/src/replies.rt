@@ -1,14 +1,14 @@
 //! The lines of replies.
 
-ghost use Rattle.std.specs.Prelude.{◌≡◌, ◌∷◌, ◌++◌, [], OnOk, map};
-ghost use Rattle.std.specs.Fmt.{decimal};
+ghost use Rattle.std.specs.Prelude.{◌≡◌, ◌∷◌, ◌++◌, [], OnOk, codes, map};
+ghost use Rattle.std.specs.Fmt.{decimal, signed_decimal};
 ghost use Rattle.std.specs.List.{flat_map};
 ghost use Rattle.script.specs.Lines.{spaced};
-ghost use Rattle.script.specs.Replies.{entry_words, extent_words, figure_words, kind_word, kind_words, reply_line, size_words, stat_words, usage_words};
+ghost use Rattle.script.specs.Replies.{attribute_words, entry_words, extent_words, figure_words, kind_word, kind_words, owner_words, reply_line, size_words, stat_words, times_words, usage_words};
 ghost use Rattle.script.specs.Words.{given_word, text_word, AddsText};
 
 use crate::words::{NOT_GIVEN, mode_word, push_data, push_text};
-use model::{Entries, Entry, Extent, FileType, Names, Reply, Stat, Usage};
+use model::{Attributes, Entries, Entry, Extent, FileType, Names, Reply, Stat, Time, Usage};
 use std::alloc::{AllocError, Global};
 
 /// Adds a reply's line.
@@ -47,6 +47,11 @@ pub(crate) fn push_reply(alloc: Global, line: &mut Vec<u8>, reply: &Reply) -> Re
         Reply::Stat(stat) => {
             line.extend_from_slice(b"stat")?;
             push_stat(alloc, line, stat)
+        }
+        Reply::Attributes { stat, attributes } => {
+            line.extend_from_slice(b"attr")?;
+            push_stat(alloc, line, stat)?;
+            push_attributes(alloc, line, attributes)
         }
         Reply::Extent(extent) => {
             line.extend_from_slice(b"extent")?;
@@ -185,6 +190,59 @@ fn push_kind(alloc: Global, line: &mut Vec<u8>, stat: &Stat) -> Result<(), Alloc
     push_number(alloc, line, b" number ", u64::from(stat.number))?;
     line.extend_from_slice(b" kind")?;
     push_kind_word(line, stat.kind)
+}
+
+/// Adds what attributes have beside the mode.
+fn push_attributes(
+    alloc: Global,
+    line: &mut Vec<u8>,
+    attributes: &Attributes,
+) -> Result<(), AllocError>
+    ensures { OnOk result (AddsText line.old line.new
+        (spaced (attribute_words attributes.now))) }
+{
+    push_owners_and_times(alloc, line, attributes)?;
+    push_number(alloc, line, b" generation ", attributes.generation)
+}
+
+fn push_owners_and_times(
+    alloc: Global,
+    line: &mut Vec<u8>,
+    attributes: &Attributes,
+) -> Result<(), AllocError>
+    ensures { OnOk result (AddsText line.old line.new
+        (spaced (owner_words attributes.now ++ times_words attributes.now))) }
+{
+    push_owner_and_group(alloc, line, attributes)?;
+    push_times(alloc, line, attributes)
+}
+
+fn push_owner_and_group(
+    alloc: Global,
+    line: &mut Vec<u8>,
+    attributes: &Attributes,
+) -> Result<(), AllocError>
+    ensures { OnOk result (AddsText line.old line.new (spaced (owner_words attributes.now))) }
+{
+    push_number(alloc, line, b" owner ", u64::from(attributes.owner))?;
+    push_number(alloc, line, b" group ", u64::from(attributes.group))
+}
+
+fn push_times(alloc: Global, line: &mut Vec<u8>, attributes: &Attributes) -> Result<(), AllocError>
+    ensures { OnOk result (AddsText line.old line.new (spaced (times_words attributes.now))) }
+{
+    push_time(alloc, line, b" data ", attributes.modified)?;
+    push_time(alloc, line, b" status ", attributes.changed)
+}
+
+/// Adds words, and a time behind them.
+fn push_time(alloc: Global, line: &mut Vec<u8>, words: &[u8], time: Time) -> Result<(), AllocError>
+    ensures { OnOk result (AddsText line.old line.new
+        (words.now ++ signed_decimal time.seconds ++ codes " " ++ decimal time.nanoseconds)) }
+{
+    let seconds = time.seconds.to_string(alloc)?;
+    push_word(line, words, seconds.as_bytes())?;
+    push_number(alloc, line, b" ", u64::from(time.nanoseconds.count()))
 }
 
 /// Adds the word of a kind behind a space.

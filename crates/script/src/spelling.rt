@@ -1,7 +1,7 @@
 //! Writing fields: each is a word behind a space.
 
 ghost use Rattle.std.specs.Prelude.{◌++◌, OnOk};
-ghost use Rattle.script.specs.Forms.{end, field, form_words, last_mode, word_of, Form, Kind, Value, Values};
+ghost use Rattle.script.specs.Forms.{end, field, form_words, last_mode, last_time, word_of, Form, Kind, Value, Values};
 ghost use Rattle.script.specs.Forms as form;
 ghost use Rattle.script.specs.Lines.{spaced};
 ghost use Rattle.script.specs.Verbs.{verb_name};
@@ -11,7 +11,7 @@ use crate::fields::{End, ModeOr, Then};
 use crate::flags::{push_flags, whence_word};
 use crate::verb::Verb;
 use crate::words::{NOT_GIVEN, mode_word, push_data, push_text};
-use model::{Bytes, Flags, Mode, Whence};
+use model::{Bytes, Flags, Mode, NewTime, Whence};
 use std::alloc::{AllocError, Global};
 
 /// What one word spells.
@@ -84,6 +84,23 @@ impl<const DEFAULT: u16> SpelledFields for ModeOr<DEFAULT> {
         }
         line.extend_from_slice(b" ")?;
         line.extend_from_slice(&mode_word(self.0))
+    }
+}
+
+impl SpelledFields for NewTime {
+    ghost form = { last_time };
+
+    ghost values = { λ time. time };
+
+    fn push(&self, alloc: Global, line: &mut Vec<u8>) -> Result<(), AllocError> {
+        match self {
+            NewTime::Omit => line.extend_from_slice(b" omit"),
+            NewTime::Now => line.extend_from_slice(b" now"),
+            NewTime::At {
+                seconds,
+                nanoseconds,
+            } => Then(*seconds, Then(*nanoseconds, End)).push(alloc, line),
+        }
     }
 }
 
@@ -184,6 +201,19 @@ impl Spelled for Option<i64> {
     fn push(&self, alloc: Global, line: &mut Vec<u8>) -> Result<(), AllocError> {
         match self {
             Some(offset) => offset.push(alloc, line),
+            None => line.extend_from_slice(NOT_GIVEN),
+        }
+    }
+}
+
+impl Spelled for Option<u32> {
+    ghost kind = { form.given_count };
+
+    ghost value = { λ count. count };
+
+    fn push(&self, alloc: Global, line: &mut Vec<u8>) -> Result<(), AllocError> {
+        match self {
+            Some(count) => count.push(alloc, line),
             None => line.extend_from_slice(NOT_GIVEN),
         }
     }

@@ -10,6 +10,8 @@ pub(crate) enum Verb {
     Entries,
     Stat,
     Lstat,
+    Attr,
+    Lattr,
     Readlink,
     Get,
     Mkdir,
@@ -20,6 +22,10 @@ pub(crate) enum Verb {
     Rename,
     RenameNew,
     Chmod,
+    Chown,
+    Lchown,
+    Utimens,
+    Lutimens,
     Truncate,
     Store,
     Set,
@@ -33,10 +39,14 @@ pub(crate) enum Verb {
     Lseek,
     Ftruncate,
     Fchmod,
+    Fchown,
+    Futimens,
     Fstat,
+    Fattr,
     Fsync,
     Extent,
     At,
+    As,
     Sync,
     Df,
     Statfs,
@@ -48,11 +58,13 @@ pub(crate) enum Verb {
 }
 
 impl Verb {
-    const ALL: [Verb; 39] = [
+    const ALL: [Verb; 49] = [
         Verb::List,
         Verb::Entries,
         Verb::Stat,
         Verb::Lstat,
+        Verb::Attr,
+        Verb::Lattr,
         Verb::Readlink,
         Verb::Get,
         Verb::Mkdir,
@@ -63,6 +75,10 @@ impl Verb {
         Verb::Rename,
         Verb::RenameNew,
         Verb::Chmod,
+        Verb::Chown,
+        Verb::Lchown,
+        Verb::Utimens,
+        Verb::Lutimens,
         Verb::Truncate,
         Verb::Store,
         Verb::Set,
@@ -76,10 +92,14 @@ impl Verb {
         Verb::Lseek,
         Verb::Ftruncate,
         Verb::Fchmod,
+        Verb::Fchown,
+        Verb::Futimens,
         Verb::Fstat,
+        Verb::Fattr,
         Verb::Fsync,
         Verb::Extent,
         Verb::At,
+        Verb::As,
         Verb::Sync,
         Verb::Df,
         Verb::Statfs,
@@ -120,6 +140,8 @@ impl Verb {
                 | Verb::Entries
                 | Verb::Stat
                 | Verb::Lstat
+                | Verb::Attr
+                | Verb::Lattr
                 | Verb::Readlink
                 | Verb::Get
                 | Verb::Mkdir
@@ -130,6 +152,10 @@ impl Verb {
                 | Verb::Rename
                 | Verb::RenameNew
                 | Verb::Chmod
+                | Verb::Chown
+                | Verb::Lchown
+                | Verb::Utimens
+                | Verb::Lutimens
                 | Verb::Truncate
                 | Verb::Store
                 | Verb::Set
@@ -144,6 +170,8 @@ impl Verb {
             Verb::Entries => b"entries",
             Verb::Stat => b"stat",
             Verb::Lstat => b"lstat",
+            Verb::Attr => b"attr",
+            Verb::Lattr => b"lattr",
             Verb::Readlink => b"readlink",
             Verb::Get => b"get",
             Verb::Mkdir => b"mkdir",
@@ -154,6 +182,10 @@ impl Verb {
             Verb::Rename => b"rename",
             Verb::RenameNew => b"renamenew",
             Verb::Chmod => b"chmod",
+            Verb::Chown => b"chown",
+            Verb::Lchown => b"lchown",
+            Verb::Utimens => b"utimens",
+            Verb::Lutimens => b"lutimens",
             Verb::Truncate => b"truncate",
             Verb::Store => b"store",
             Verb::Set => b"set",
@@ -167,10 +199,14 @@ impl Verb {
             Verb::Lseek => b"lseek",
             Verb::Ftruncate => b"ftruncate",
             Verb::Fchmod => b"fchmod",
+            Verb::Fchown => b"fchown",
+            Verb::Futimens => b"futimens",
             Verb::Fstat => b"fstat",
+            Verb::Fattr => b"fattr",
             Verb::Fsync => b"fsync",
             Verb::Extent => b"extent",
             Verb::At => b"at",
+            Verb::As => b"as",
             Verb::Sync => b"sync",
             Verb::Df => b"df",
             Verb::Statfs => b"statfs",

@@ -10,7 +10,7 @@ use crate::fields::{End, ModeOr, Then};
 use crate::spelling::{DataOf, SpelledFields, push_fields};
 use crate::verb::Verb;
 use crate::words::push_text;
-use model::{Bytes, Command, PathCall};
+use model::{Bytes, Command, NewTime, PathCall};
 use std::alloc::{AllocError, Global};
 
 /// Adds a command's line.
@@ -71,7 +71,15 @@ pub(crate) fn push_command(
         Command::Fchmod { fd, mode } => {
             push_fields(alloc, line, Verb::Fchmod, &Then(*fd, Then(*mode, End)))
         }
+        Command::Fchown { fd, owner, group } => {
+            let fields = Then(*fd, Then(*owner, Then(*group, End)));
+            push_fields(alloc, line, Verb::Fchown, &fields)
+        }
+        Command::Futimens { fd, time } => {
+            push_fields(alloc, line, Verb::Futimens, &Then(*fd, *time))
+        }
         Command::Fstat { fd } => push_fields(alloc, line, Verb::Fstat, &Then(*fd, End)),
+        Command::Fattr { fd } => push_fields(alloc, line, Verb::Fattr, &Then(*fd, End)),
         Command::Fsync { fd } => push_fields(alloc, line, Verb::Fsync, &Then(*fd, End)),
         Command::Extent { path, offset } => {
             push_fields(alloc, line, Verb::Extent, &Then(path, Then(*offset, End)))
@@ -82,6 +90,9 @@ pub(crate) fn push_command(
         } => {
             let fields = Then(*seconds, Then(*nanoseconds, End));
             push_fields(alloc, line, Verb::At, &fields)
+        }
+        Command::As { owner, group } => {
+            push_fields(alloc, line, Verb::As, &Then(*owner, Then(*group, End)))
         }
         Command::Sync => push_fields(alloc, line, Verb::Sync, &End),
         Command::Df => push_fields(alloc, line, Verb::Df, &End),
@@ -136,6 +147,7 @@ fn push_call(alloc: Global, line: &mut Vec<u8>, call: &PathCall<'_>) -> Result<(
         }
         PathCall::Stat { path } => push_fields(alloc, line, Verb::Stat, &Then(path, End)),
         PathCall::Lstat { path } => push_fields(alloc, line, Verb::Lstat, &Then(path, End)),
+        PathCall::Attr { path, follows } => push_attr(alloc, line, path, *follows),
         PathCall::Readlink { path } => push_fields(alloc, line, Verb::Readlink, &Then(path, End)),
         PathCall::Get {
             path,
@@ -166,6 +178,17 @@ fn push_call(alloc: Global, line: &mut Vec<u8>, call: &PathCall<'_>) -> Result<(
         PathCall::Chmod { path, mode } => {
             push_fields(alloc, line, Verb::Chmod, &Then(path, Then(*mode, End)))
         }
+        PathCall::Chown {
+            path,
+            follows,
+            owner,
+            group,
+        } => push_chown(alloc, line, path, *follows, (*owner, *group)),
+        PathCall::Utimens {
+            path,
+            follows,
+            time,
+        } => push_utimens(alloc, line, path, *follows, *time),
         PathCall::Truncate { path, size } => {
             push_fields(alloc, line, Verb::Truncate, &Then(path, Then(*size, End)))
         }
@@ -177,5 +200,59 @@ fn push_call(alloc: Global, line: &mut Vec<u8>, call: &PathCall<'_>) -> Result<(
             let fields = Then(path, Then(settings.mode, Then(settings.size, End)));
             push_fields(alloc, line, Verb::Set, &fields)
         }
+    }
+}
+
+/// Adds the line of `attr`, or of `lattr`, which follows no link.
+fn push_attr(
+    alloc: Global,
+    line: &mut Vec<u8>,
+    path: &Bytes<'_>,
+    follows: bool,
+) -> Result<(), AllocError>
+    ensures { OnOk result (AddsText line.old line.new
+        (line_of (call_words (PathCall.Attr path.now follows)))) }
+{
+    if follows {
+        push_fields(alloc, line, Verb::Attr, &Then(path, End))
+    } else {
+        push_fields(alloc, line, Verb::Lattr, &Then(path, End))
+    }
+}
+
+/// Adds the line of `chown`, or of `lchown`, which follows no link.
+fn push_chown(
+    alloc: Global,
+    line: &mut Vec<u8>,
+    path: &Bytes<'_>,
+    follows: bool,
+    owners: (Option<u32>, Option<u32>),
+) -> Result<(), AllocError>
+    ensures { OnOk result (AddsText line.old line.new
+        (line_of (call_words (PathCall.Chown path.now follows owners.0 owners.1)))) }
+{
+    let fields = Then(path, Then(owners.0, Then(owners.1, End)));
+    if follows {
+        push_fields(alloc, line, Verb::Chown, &fields)
+    } else {
+        push_fields(alloc, line, Verb::Lchown, &fields)
+    }
+}
+
+/// Adds the line of `utimens`, or of `lutimens`, which follows no link.
+fn push_utimens(
+    alloc: Global,
+    line: &mut Vec<u8>,
+    path: &Bytes<'_>,
+    follows: bool,
+    time: NewTime,
+) -> Result<(), AllocError>
+    ensures { OnOk result (AddsText line.old line.new
+        (line_of (call_words (PathCall.Utimens path.now follows time)))) }
+{
+    if follows {
+        push_fields(alloc, line, Verb::Utimens, &Then(path, time))
+    } else {
+        push_fields(alloc, line, Verb::Lutimens, &Then(path, time))
     }
 }

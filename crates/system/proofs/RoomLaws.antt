@@ -8,7 +8,7 @@ use Rattle.model.specs.declared.limits.Limits.{Limits}
 use Rattle.layout.specs.Limits.{Sizes}
 use Rattle.layout.specs.Places.{blocks_of}
 use Rattle.model.specs.Attributes.{no_attributes}
-use Rattle.model.specs.Records.{Change, Edit, Replays, applied, cost_of_all, count_orphans, pledged_for, work_of, create, link, remove_name, rename, write, truncate, change_mode, set_file}
+use Rattle.model.specs.Records.{Change, Edit, Replays, applied, cost_of_all, count_orphans, pledged_for, work_of, create, link, remove_name, rename, write, truncate, change_attributes, set_file}
 use Rattle.model.specs.Room.{cost}
 use Rattle.model.specs.States.{State}
 use Rattle.model.specs.Trees.{Description}
@@ -127,7 +127,7 @@ sized_by (remove_name parent name) size = tt
 sized_by (rename parent name new_parent new_name) size = tt
 sized_by (write number offset bytes) size = sym (length-replicate size 0)
 sized_by (truncate number new) size = sym (length-replicate size 0)
-sized_by (change_mode number mode) size = tt
+sized_by (change_attributes number permissions modified) size = tt
 sized_by (set_file number mode new) size = sym (length-replicate size 0)
 
 pub files_sized : (change : Change) (size : ℕ) → IsSizeBefore (files_of size) change size

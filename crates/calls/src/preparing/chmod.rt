@@ -7,12 +7,13 @@ ghost use Rattle.model.specs.Volumes.{tree_of};
 ghost use Rattle.calls.specs.Changing.{Comes};
 ghost use Rattle.calls.specs.Preparing.{Prepares};
 
+use crate::Changing;
 use crate::leading::lead;
-use crate::{Changing, OwnedChange};
+use crate::preparing::attributes::{NewAttributes, change_attributes};
 use buffers::Blocks;
 use inofile::InodeFile;
-use model::{Mode, Time, records_change_trees};
-use records::{Failure, prepare_mode};
+use model::{Mode, Time};
+use records::Failure;
 use std::alloc::Global;
 
 /// Gives this mode to the file or directory where a path leads, where a last symbolic link is
@@ -32,13 +33,13 @@ pub fn change_mode<B: Blocks>(
         (λ limits v table. Comes (changes_mode limits now (tree_of v table) path.now mode) limits v
         table) result }
 {
-    records_change_trees();
     let number = lead(alloc, inodes, blocks, path, true)?;
-    let time = now;
-    let prepared = prepare_mode(alloc, inodes, blocks, now, number, mode)?;
-    Ok(Changing {
-        time,
-        change: OwnedChange::ChangeMode { number, mode },
-        prepared,
-    })
+    change_attributes(
+        alloc,
+        inodes,
+        blocks,
+        now,
+        number,
+        NewAttributes::Mode(mode),
+    )
 }

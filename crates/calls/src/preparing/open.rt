@@ -1,8 +1,8 @@
 //! Opening a file over a path: one that is there, or a new one.
 
-ghost use Rattle.std.specs.Prelude.{◌≡◌, ◌≢◌, ◌<◌, ◌&&◌, IfOk, IsTrue, None, Some, not};
+ghost use Rattle.std.specs.Prelude.{◌≡◌, ◌≢◌, ◌<◌, ◌&&◌, IfOk, IsTrue, None, Some, is_some, not};
 ghost use Rattle.layout.specs.StateLimits.{limits_of};
-ghost use Rattle.model.specs.Attributes.{KeepsTime};
+ghost use Rattle.model.specs.Attributes.{FitAttributes, KeepsTime, new_attributes};
 ghost use Rattle.model.specs.Descriptors.{opens_object};
 ghost use Rattle.model.specs.Paths.{first_refusal, parts as parts_of, text_tests};
 ghost use Rattle.model.specs.Trees as trees;
@@ -19,7 +19,7 @@ use buffers::Blocks;
 use inofile::InodeFile;
 use layout::InodeNumber;
 use model::{
-    Errno, FileType, Flags, Mode, Time, records_change_trees, records_keep_volumes,
+    Errno, FileType, Flags, Mode, Permissions, Time, records_change_trees, records_keep_volumes,
     sweeps_keep_volumes, volumes_are_trees, volumes_tell_fresh_numbers, volumes_tell_links,
 };
 use paths::{Parts, Place, Target, resolve};
@@ -55,15 +55,16 @@ pub fn open_along<B: Blocks>(
     path: &[u8],
     parts: Parts,
     flags: Flags,
-    mode: Mode,
+    permissions: Permissions,
 ) -> Result<Opened, Failure>
     requires now { KeepsTime (limits_of inodes.old.geometry).has_attributes now }
+    requires kept { FitAttributes (is_some now) (new_attributes permissions) }
     requires parts { parts ≡ parts_of path.now }
     requires passed { first_refusal (text_tests (limits_of inodes.old.geometry) path.now) ≡ None }
     ensures within { IfOk result (KeepsOpenedBounds inodes.old.geometry.inodes) }
     ensures opens { PreparesOpening now B.Blocks blocks.old blocks.new inodes.old inodes.new
-        (λ limits v table. OpensAt (opens_along limits now (tree_of v table) path.now flags mode)
-        limits flags v table) result }
+        (λ limits v table. OpensAt (opens_along limits now (tree_of v table) path.now flags
+        permissions) limits flags v table) result }
 {
     volumes_are_trees();
     volumes_tell_fresh_numbers();
@@ -79,7 +80,8 @@ pub fn open_along<B: Blocks>(
     };
     match place {
         Place::Missing { trail, name } => {
-            open_new(alloc, inodes, blocks, now, trail.here(), name, flags, mode)
+            let parent = trail.here();
+            open_new(alloc, inodes, blocks, now, parent, name, flags, permissions)
         }
         Place::Refusal(errno) => Err(Failure::Refused(errno)),
         Place::Directory(trail) => open_object(alloc, inodes, blocks, now, trail.here(), flags),
@@ -154,17 +156,21 @@ fn open_new<B: Blocks>(
     parent: InodeNumber,
     name: Vec<u8>,
     flags: Flags,
-    mode: Mode,
+    permissions: Permissions,
 ) -> Result<Opened, Failure>
     requires now { KeepsTime (limits_of inodes.old.geometry).has_attributes now }
+    requires kept { FitAttributes (is_some now) (new_attributes permissions) }
     ensures within { IfOk result (KeepsOpenedBounds inodes.old.geometry.inodes) }
     ensures opens { PreparesOpening now B.Blocks blocks.old blocks.new inodes.old inodes.new
-        (λ limits v table. OpensNew limits now v flags mode parent name.items) result }
+        (λ limits v table. OpensNew limits now v flags permissions parent name.items) result }
 {
     if !flags.creates {
         return Err(Failure::Refused(Errno::ENOENT));
     }
-    let object = OwnedObject::File { mode };
+    let Permissions { mode, owner, group } = permissions;
+    let object = OwnedObject::File {
+        permissions: Permissions { mode, owner, group },
+    };
     let changing = make_in(alloc, inodes, blocks, now, parent, name, object)?;
     let Some(number) = changing.change.number_made() else {
         unreachable!()

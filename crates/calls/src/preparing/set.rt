@@ -15,15 +15,16 @@ ghost use Rattle.calls.specs.Changing.{ComesOrStays};
 ghost use Rattle.calls.specs.Preparing.{PreparesAny};
 
 use crate::leading::find_object;
+use crate::preparing::attributes::{NewAttributes, change_attributes};
 use crate::preparing::truncate::{refusal_of_size, truncate_file};
 use crate::texts::refusal_of_path;
 use crate::{Changing, OwnedChange};
 use buffers::Blocks;
 use inofile::InodeFile;
 use layout::InodeNumber;
-use model::{Errno, Limits, Mode, Settings, Time, records_change_trees};
+use model::{Errno, Limits, Mode, Settings, Time};
 use paths::{Found, Parts};
-use records::{Failure, kind_at, prepare_mode, set_bytes};
+use records::{Failure, kind_at, set_bytes};
 use std::alloc::Global;
 
 /// Gives what stands where a path leads, where a last symbolic link is followed, all that is given,
@@ -122,6 +123,7 @@ fn set_directory<B: Blocks>(
     settings: Settings,
 ) -> Result<Option<Changing>, Failure>
     requires now { KeepsTime (limits_of inodes.old.geometry).has_attributes now }
+    requires number { IsInodeNumber inodes.old.geometry.inodes number }
     ensures { PreparesAny now B.Blocks blocks.old blocks.new inodes.old inodes.new
         (λ limits v table r. IsTrue (is_directory_node (v number))
         → ComesOrStays (sets_object now (tree_of v table) settings (trees.directory number)) limits
@@ -230,6 +232,7 @@ pub fn set_mode<B: Blocks>(
     mode: Option<Mode>,
 ) -> Result<Option<Changing>, Failure>
     requires now { KeepsTime (limits_of inodes.old.geometry).has_attributes now }
+    requires number { IsInodeNumber inodes.old.geometry.inodes number }
     ensures { PreparesAny now B.Blocks blocks.old blocks.new inodes.old inodes.new
         (λ limits v table r. IsTrue (is_file_node (v number) || is_directory_node (v number))
         → ComesOrStays (sets_mode now (tree_of v table) number mode) limits v table r) result }
@@ -237,12 +240,7 @@ pub fn set_mode<B: Blocks>(
     let Some(mode) = mode else {
         return Ok(None);
     };
-    records_change_trees();
-    let time = now;
-    let prepared = prepare_mode(alloc, inodes, blocks, now, number, mode)?;
-    Ok(Some(Changing {
-        time,
-        change: OwnedChange::ChangeMode { number, mode },
-        prepared,
-    }))
+    let new = NewAttributes::Mode(mode);
+    let changing = change_attributes(alloc, inodes, blocks, now, number, new)?;
+    Ok(Some(changing))
 }

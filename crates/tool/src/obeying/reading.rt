@@ -15,8 +15,9 @@ use std::io::{Read, Write};
 
 /// The commands that read alone, but for `snap list`, which is two words, and `in`, which reads
 /// whatever is behind it.
-const READING: [&str; 10] = [
-    "list", "entries", "stat", "lstat", "readlink", "get", "in", "extent", "df", "statfs",
+const READING: [&str; 12] = [
+    "list", "entries", "stat", "lstat", "attr", "lattr", "readlink", "get", "in", "extent", "df",
+    "statfs",
 ];
 
 /// Does one command, which words spell.
@@ -30,7 +31,7 @@ pub(super) fn run_one<I: Read, O: Write, E: Write>(
     if options.salvages && !is_reading(words) {
         let _ = writeln!(
             streams.err,
-            "wafl: --salvage changes nothing: it goes with list, entries, stat, lstat, readlink, get, in, extent, snap list, df and statfs"
+            "wafl: --salvage changes nothing: it goes with list, entries, stat, lstat, attr, lattr, readlink, get, in, extent, snap list, df and statfs"
         );
         return Status::NotUnderstood;
     }

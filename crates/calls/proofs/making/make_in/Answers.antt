@@ -2,6 +2,8 @@ use Rattle.std.proofs.Common.{rules, ◌∙◌, ℕ, List, Some, Err, IfErr, IfO
 use Rattle.std.proofs.lemmas.Bool.{false≢true}
 use Rattle.layout.specs.StateLimits.{limits_of}
 use Rattle.layout.specs.Limits.{Sizes}
+use Rattle.layout.specs.Record.{permissions_of_made}
+use Rattle.model.specs.Attributes.{FitAttributes, new_attributes}
 use Rattle.model.specs.Records.{Made, IsMade, TakesName, create, is_vacant, node_of, stamped}
 use Rattle.model.specs.Volumes.{IsVolume}
 use Rattle.model.specs.declared.errno.Errno.TheVariants.{DIRFULL}
@@ -15,6 +17,7 @@ use Rattle.images.specs.Soundness.{by_bytes}
 use Rattle.records.proofs.StandLaws.{looks_beside, looks_of_reads, settled_layout, stands_over, stands_with}
 use Rattle.calls.specs.Changing.{made_by}
 use Rattle.calls.specs.Making.{CreatesObject, IsLeastFree, MakesIn}
+use Rattle.calls.proofs.AttributeLaws.{fit_where}
 use Rattle.calls.proofs.PrepareSteps.{fails_by, follows, grants, refuses, stops, stops_later}
 use Rattle.calls.proofs.making.make_in.Goals as goal
 
@@ -82,7 +85,8 @@ returns-clause-prepares g c =
     let made = made_by c.args.object in
     let name = c.in-Some-new.name.bytes.items in
     let n = c.new-number.result in
-    rw c.note_made.ensures (grants (looks_more before c.in_ok-prepared.ensures.looks) c.in_ok-prepared.ensures.ready refl
+    let limits = limits_of c.args.inodes.now.geometry in
+    rw c.note_made.ensures (grants (looks_more before c.in_ok-prepared.ensures.looks) c.in_ok-prepared.ensures.ready (refl, c.requires.kept)
     (λ disk settled v stands.
     let read = stands_over {G = g.B.Blocks} c.args.blocks.now c.new_object.new.blocks c.args.inodes.now c.new_object.ensures.reads.count (c.new_object.ensures.reads.same disk stands.shows) stands.volume in
     let free = ap v c.new-number.ensures ∙ c.in-Some.ensures.free _ disk settled v read.volume in
@@ -99,7 +103,8 @@ returns-clause-prepares g c =
     } in (
       n,
       ap (λ (x : List ℕ). stamped c.args.now (create n c.args.parent made x)) c.in-Some-new.ensures.some,
-      subst (IsMade (limits_of c.args.inodes.now.geometry)) c.as_new.ensures.says (c.as_new.ensures.good c.args.inodes.now.geometry),
+      subst (IsMade limits) c.as_new.ensures.says (c.as_new.ensures.good c.args.inodes.now.geometry
+          (subst (λ (m : Made). FitAttributes limits.has_attributes (new_attributes (permissions_of_made m))) (sym c.as_new.ensures.says) (fit_where limits.has_attributes c.args.now _ c.requires.now c.requires.kept))),
       subst (λ (x : List ℕ). TakesName (limits_of c.args.inodes.now.geometry) v c.args.parent x) (c.deref.ensures.value ∙ c.in-Some-new.ensures.some)
           (subst (λ (z : Sizes). TakesName (limits_of z) v c.args.parent c.deref.result.now) before.geometry (c.in_ok-prepared.ensures.takes _ disk settled v (before.kept disk settled v stands))),
       subst (IsLeastFree c.args.inodes.now.geometry.inodes v) (sym c.new-number.ensures) least,

@@ -1,9 +1,13 @@
 use Rattle.std.specs.Option.{option_map}
+use Rattle.std.specs.Prelude.{is_some}
 use Rattle.std.proofs.Common.{Option, Ok, ap, subst, sym}
 use Rattle.layout.specs.StateLimits.{limits_of}
+use Rattle.model.specs.Attributes.{FitAttributes, new_attributes}
 use Rattle.model.specs.Descriptors.{opens}
 use Rattle.model.specs.Room.{nothing}
 use Rattle.model.specs.Volumes.{tree_of}
+use Rattle.model.specs.Sessions.{call_time}
+use Rattle.model.specs.declared.attributes.Permissions.{Permissions}
 use Rattle.model.specs.declared.time.Time.{Time}
 use Rattle.files.specs.Opened.{tree_with}
 use Rattle.model.specs.declared.reply.Reply.{Reply}
@@ -24,7 +28,8 @@ returns-in_err-opening g c =
     let table = table_of c.args.files.now in
     passes _ c.from_residual.result c.from_residual.ensures.1 c.in_err-opening.ensures (λ disk settled v stands volume mounted fits e told.
     opens_leads c.args.path.now c.args.flags c.args.mode c.args.below limits c.args.session.now v table c.args.tells (Refused e) v table nothing
-    (subst (λ (n : Option Time). opens c.args.tells c.args.below limits n (tree_of v table) c.args.path.now c.args.flags c.args.mode (Refused e) (tree_of v table) nothing) c.time_of-now.ensures.is (told c.args.tells)))
+    (subst (λ (p : Permissions). opens c.args.tells c.args.below limits (call_time limits c.args.session.now) (tree_of v table) c.args.path.now c.args.flags p (Refused e) (tree_of v table) nothing) c.permissions_of-permissions.ensures.is
+    (subst (λ (n : Option Time). opens c.args.tells c.args.below limits n (tree_of v table) c.args.path.now c.args.flags c.permissions_of-permissions.result (Refused e) (tree_of v table) nothing) c.time_of-now.ensures.is (told c.args.tells))))
 
 pub returns : goal.returns
 returns g c =
@@ -46,4 +51,9 @@ returns g c =
       limits = said_within o.changing;
     }) (λ P is. said_so o.changing P is)
     (λ v told. opens_so c.args.path.now c.args.flags c.args.mode c.args.below limits c.args.session.now v files c.args.tells o o.changing
-    (subst (λ (n : Option Time). OpensDescriptorOver (λ t. opens t c.args.below limits n (tree_with files v) c.args.path.now c.args.flags c.args.mode) limits v files o o.changing) c.time_of-now.ensures.is told))))
+    (subst (λ (p : Permissions). OpensDescriptorOver (λ t. opens t c.args.below limits (call_time limits c.args.session.now) (tree_with files v) c.args.path.now c.args.flags p) limits v files o o.changing) c.permissions_of-permissions.ensures.is
+    (subst (λ (n : Option Time). OpensDescriptorOver (λ t. opens t c.args.below limits n (tree_with files v) c.args.path.now c.args.flags c.permissions_of-permissions.result) limits v files o o.changing) c.time_of-now.ensures.is told)))))
+
+pub prepare_open-requires-clause-kept : goal.prepare_open-requires-clause-kept
+prepare_open-requires-clause-kept g c =
+    subst (λ (n : Option Time). FitAttributes (is_some n) (new_attributes c.permissions_of-permissions.result)) (sym c.time_of-now.ensures.is) c.permissions_of-permissions.ensures.kept

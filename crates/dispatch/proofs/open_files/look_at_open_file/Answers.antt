@@ -1,6 +1,10 @@
-use Rattle.std.proofs.Common.{ap, refl}
+use Rattle.std.proofs.Common.{ap, refl, subst}
 use Rattle.std.proofs.lemmas.Result.{IfOk-weaker, on_err_weaker}
+use Rattle.layout.specs.Limits.{Sizes}
 use Rattle.layout.specs.StateLimits.{limits_of}
+use Rattle.model.specs.Room.{nothing}
+use Rattle.dispatch.specs.Answering.{answered_reply}
+use Rattle.dispatch.specs.OpenFiles.{WouldLead}
 use Rattle.descriptors.specs.Tables.{table_of}
 use Rattle.records.specs.Failures.{read_outcome}
 use Rattle.dispatch.proofs.LookedLaws.{its_table, never_damaged, on_open}
@@ -23,5 +27,6 @@ returns g c =
     let v = shown.running in
     IfOk-weaker (read_outcome result) _ _ (λ r answers.
     table_leads {G = g.S.Station} f _ shown call _ refl (stands_looked {G = g.S.Station} f shown looks) (table_of c.read_open_file-outcome.new.files) refl (seen.fits v shown.fits)
-    (seen.mounted v (its_table {G = g.S.Station} f shown)) (answers (limits_of f.root.geometry) f.session)) (on_open {G = g.S.Station} f shown seen.answers))
+    (seen.mounted v (its_table {G = g.S.Station} f shown))
+    (subst (λ (z : Sizes). WouldLead (limits_of z) f.session v (table_of f.files) call (answered_reply r) v (table_of c.read_open_file-outcome.new.files) nothing) f.sizes (answers f.session))) (on_open {G = g.S.Station} f shown seen.answers))
     (λ s shown. never_damaged {G = g.S.Station} f shown seen.damaged)

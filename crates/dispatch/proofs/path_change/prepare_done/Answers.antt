@@ -12,7 +12,7 @@ use Rattle.dispatch.proofs.DoingLaws.{path_done, path_refused}
 use Rattle.dispatch.proofs.path_change.prepare_done.Goals as goal
 
 pub returns-in_err-changing : goal.returns-in_err-changing
-returns-in_err-changing g c = λ files. path_refused c.args.session.now c.args.call.now c.time_of-now.ensures.is _ c.from_residual.result c.from_residual.ensures.1 c.in_err-changing.ensures files
+returns-in_err-changing g c = λ files. path_refused c.args.session.now c.args.call.now _ c.from_residual.result c.from_residual.ensures.1 c.in_err-changing.ensures files
 
 pub returns : goal.returns
 returns g c = λ files.

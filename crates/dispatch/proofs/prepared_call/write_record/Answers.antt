@@ -6,4 +6,5 @@ returns-clause-is c = λ has_attributes time. record {
   time = time;
   limits = (c.requires.some, c.requires.most);
   fields = ((omega arith, (omega arith, omega (arith, c.requires.most))), λ i. omega (arith, c.type_inv.bytes i));
+  attributes = tt;
 }

@@ -42,3 +42,11 @@ returns-in-Ftruncate g c =
 pub returns-in-Fchmod : goal.returns-in-Fchmod
 returns-in-Fchmod g c =
     asked_so c.args.session.now c.args.call.now (command.Fchmod c.in-Fchmod.fd c.in-Fchmod.mode) c.prepare_changing_mode.result c.in-Fchmod.is c.prepare_changing_mode.ensures
+
+pub returns-in-Fchown : goal.returns-in-Fchown
+returns-in-Fchown g c =
+    asked_so c.args.session.now c.args.call.now (command.Fchown c.in-Fchown.fd c.in-Fchown.owner c.in-Fchown.group) c.prepare_changing_owners.result c.in-Fchown.is c.prepare_changing_owners.ensures
+
+pub returns-in-Futimens : goal.returns-in-Futimens
+returns-in-Futimens g c =
+    asked_so c.args.session.now c.args.call.now (command.Futimens c.in-Futimens.fd c.in-Futimens.time) c.prepare_changing_times.result c.in-Futimens.is c.prepare_changing_times.ensures

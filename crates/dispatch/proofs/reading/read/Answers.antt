@@ -44,6 +44,16 @@ pub returns-in_ok-stat-in-Lstat-clause-tells : goal.returns-in_ok-stat-in-Lstat-
 returns-in_ok-stat-in-Lstat-clause-tells g c =
     gives c.args.call.now (path_calls.Lstat c.as_bytes-in-Lstat.result.now) (one_text c.args.call.now path_calls.Lstat c.in-Lstat.path _ c.in-Lstat.is c.as_bytes-in-Lstat.ensures) c.in_ok-stat-in-Lstat.ensures
 
+pub returns-in_err-told-in-Attr-clause-tells : goal.returns-in_err-told-in-Attr-clause-tells
+returns-in_err-told-in-Attr-clause-tells g c =
+    let of = λ (p : List ℕ). path_calls.Attr p c.in-Attr.follows in
+    fails c.args.call.now (of c.as_bytes-in-Attr.result.now) (one_text c.args.call.now of c.in-Attr.path _ c.in-Attr.is c.as_bytes-in-Attr.ensures) _ c.from_residual-in_err-told-in-Attr.result c.from_residual-in_err-told-in-Attr.ensures.1 (λ errno. refl) c.in_err-told-in-Attr.ensures
+
+pub returns-in_ok-told-in-Attr-clause-tells : goal.returns-in_ok-told-in-Attr-clause-tells
+returns-in_ok-told-in-Attr-clause-tells g c =
+    let of = λ (p : List ℕ). path_calls.Attr p c.in-Attr.follows in
+    gives c.args.call.now (of c.as_bytes-in-Attr.result.now) (one_text c.args.call.now of c.in-Attr.path _ c.in-Attr.is c.as_bytes-in-Attr.ensures) c.in_ok-told-in-Attr.ensures
+
 pub returns-in_err-text-in-Readlink-clause-tells : goal.returns-in_err-text-in-Readlink-clause-tells
 returns-in_err-text-in-Readlink-clause-tells g c =
     fails c.args.call.now (path_calls.Readlink c.as_bytes-in-Readlink.result.now) (one_text c.args.call.now path_calls.Readlink c.in-Readlink.path _ c.in-Readlink.is c.as_bytes-in-Readlink.ensures) _ c.from_residual-in_err-text-in-Readlink.result c.from_residual-in_err-text-in-Readlink.ensures.1 (λ errno. refl) c.in_err-text-in-Readlink.ensures

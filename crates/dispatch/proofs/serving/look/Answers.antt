@@ -22,3 +22,6 @@ pub returns-in-At : goal.returns-in-At
 returns-in-At g c = rw c.in-At.is
     (subst (λ (z : ℤ). Answers c.args.system.now c.say_time.new.system (command.At z c.in-At.nanoseconds) (Ok c.say_time.result))
     (to_z-of_z w64 c.in-At.seconds (search rules)) c.say_time.ensures)
+
+pub returns-in-As : goal.returns-in-As
+returns-in-As g c = rw c.in-As.is c.say_owner.ensures

@@ -4,7 +4,7 @@ use Rattle.model.specs.declared.limits.Limits.{Limits}
 use Rattle.layout.specs.StateLimits.{limits_of}
 use Rattle.model.specs.Records.{without_orphans}
 use Rattle.model.specs.Room.{nothing}
-use Rattle.model.specs.States.{now_of}
+use Rattle.model.specs.Sessions.{new_session}
 use Rattle.dispatch.proofs.ServingLaws.{asked_at}
 use Rattle.model.specs.Steps.{calls}
 use Rattle.model.specs.Volumes.{tree_of}
@@ -32,8 +32,8 @@ returns-in-Some-clause-views g c = λ disk shows v pairs holds shown s limits sa
     (c.in_ok-is_there.ensures.keeps disk shows v pairs holds shown) in
     IfOk-weaker (read_outcome c.read.result) _ _
     (λ x answers. reading_viewed s name call (name, tree_of (without_orphans is.volume) closed) (answered_reply x) (ap (named name) same ∙ is.listed) (search rules)
-    (asked_at (now_of s) s.limits (tree_of (without_orphans is.volume) closed) call (answered_reply x) nothing (search rules)
-    (subst (λ (l : Limits). calls l None (tree_of (without_orphans is.volume) closed) call (answered_reply x) (tree_of (without_orphans is.volume) closed) nothing) (ap limits_of is.geometry ∙ sym limits)
+    (asked_at s.session s.limits (tree_of (without_orphans is.volume) closed) call (answered_reply x) nothing (search rules)
+    (subst (λ (l : Limits). calls l new_session (tree_of (without_orphans is.volume) closed) call (answered_reply x) (tree_of (without_orphans is.volume) closed) nothing) (ap limits_of is.geometry ∙ sym limits)
     (frozen_told c.mounts_forget_open_files.ensures c.reading_forgets_open_files.ensures (limits_of c.in-Some.view.inodes.geometry) is.volume call (answered_reply x) is.is (search rules) answers))))
     (c.read.ensures.tells.answers disk is.settled is.volume closed (view_stands (kept.reads.same disk shows) (kept.reads.count ∙ c.requires.size) is) is.is)
 

@@ -16,27 +16,27 @@ pub returns-in-Some : goal.returns-in-Some
 returns-in-Some g c =
     let is : first_refusal (text_tests (limits_of c.args.inodes.now.geometry) c.args.path.now) ≡ Some c.in-Some.errno = sym c.refusal_of_path.ensures ∙ c.in-Some.is in
     refuses no_look (text_own (limits_of c.args.inodes.now.geometry) c.args.path.now c.in-Some.errno is) (λ disk settled v stands volume mounted fits.
-    open_refused c.args.below (limits_of c.args.inodes.now.geometry) c.args.now v c.args.table.now c.args.path.now c.args.flags c.args.mode c.in-Some.errno (text_first (limits_of c.args.inodes.now.geometry) c.args.path.now (open_tests c.args.flags) c.in-Some.errno is))
+    open_refused c.args.below (limits_of c.args.inodes.now.geometry) c.args.now v c.args.table.now c.args.path.now c.args.flags c.args.permissions c.in-Some.errno (text_first (limits_of c.args.inodes.now.geometry) c.args.path.now (open_tests c.args.flags) c.in-Some.errno is))
 
 pub returns-in-Some-refusal_of_flags : goal.returns-in-Some-refusal_of_flags
 returns-in-Some-refusal_of_flags g c = refuses no_look (subst (λ o. IfSome o (λ e. IsTrue (is_path_refusal e))) c.in-Some-refusal_of_flags.is c.refusal_of_flags.ensures.own) (λ disk settled v stands volume mounted fits.
     let none : first_refusal (text_tests (limits_of c.args.inodes.now.geometry) c.args.path.now) ≡ None = sym c.refusal_of_path.ensures ∙ c.in_default.is in
     let is = sym c.refusal_of_flags.ensures.first ∙ c.in-Some-refusal_of_flags.is in
-    open_refused c.args.below (limits_of c.args.inodes.now.geometry) c.args.now v c.args.table.now c.args.path.now c.args.flags c.args.mode c.in-Some-refusal_of_flags.errno
+    open_refused c.args.below (limits_of c.args.inodes.now.geometry) c.args.now v c.args.table.now c.args.path.now c.args.flags c.args.permissions c.in-Some-refusal_of_flags.errno
     (text_before (limits_of c.args.inodes.now.geometry) c.args.path.now (open_tests c.args.flags) none ∙ is))
 
 pub returns-in_err-opened : goal.returns-in_err-opened
 returns-in_err-opened g c =
     passes _ c.from_residual-in_err-opened.result c.from_residual-in_err-opened.ensures.1 (leaves c.in_err-opened.ensures.opens (λ disk settled v stands volume mounted fits r opens. opens))
     (λ disk settled v stands volume mounted fits.
-    open_nowhere c.args.below (limits_of c.args.inodes.now.geometry) c.args.now v c.args.table.now c.args.path.now c.args.flags c.args.mode (sym c.refusal_of_path.ensures ∙ c.in_default.is)
+    open_nowhere c.args.below (limits_of c.args.inodes.now.geometry) c.args.now v c.args.table.now c.args.path.now c.args.flags c.args.permissions (sym c.refusal_of_path.ensures ∙ c.in_default.is)
     (sym c.refusal_of_flags.ensures.first ∙ c.in_default-refusal_of_flags.is) c.in-Some-lowest_free.fd (sym c.lowest_free.ensures.lowest ∙ c.in-Some-lowest_free.is))
 
 pub returns : goal.returns
 returns g c =
     let opens = c.in_ok-opened.ensures.opens in
     grants opens.looks (search rules) opens.ready opens.timed opens.does (λ disk settled v stands volume mounted fits.
-    open_told c.args.below (limits_of c.args.inodes.now.geometry) c.args.now v c.args.table.now c.args.path.now c.args.flags c.args.mode (sym c.refusal_of_path.ensures ∙ c.in_default.is)
+    open_told c.args.below (limits_of c.args.inodes.now.geometry) c.args.now v c.args.table.now c.args.path.now c.args.flags c.args.permissions (sym c.refusal_of_path.ensures ∙ c.in_default.is)
     (sym c.refusal_of_flags.ensures.first ∙ c.in_default-refusal_of_flags.is) c.in-Some-lowest_free.fd (sym c.lowest_free.ensures.lowest ∙ c.in-Some-lowest_free.is) c.in_ok-opened.opened
     c.opened-file.result _ (c.opened-file.ensures.described ∙ ap (λ (n : ℕ). described_by n c.args.flags) c.get.ensures) c.opened-file.ensures.figures
     (ap (λ (n : ℕ). record { number = n; kind = File; mode = c.in_ok-opened.opened.mode; links = c.in_ok-opened.opened.links; size = c.in_ok-opened.opened.size }) c.get.ensures)

@@ -23,7 +23,7 @@ returns-in_default g c = grants c.in_ok-planned.ensures.looks tt tt tt (λ disk 
     (c.in_ok-planned.ensures.answers disk settled v table stands volume mounted)))
 
 pub returns : goal.returns
-returns g c = grants c.in_ok-planned.ensures.looks (search rules) (search rules) refl
+returns g c = grants c.in_ok-planned.ensures.looks (search rules) (search rules) (refl, tt)
     (λ disk settled v stands. subst (λ (o : Option Prepared). IfSome o (λ x. Does disk settled c.write_bytes.new.inodes v x (stamped c.args.now (write c.new-number.result c.args.offset c.args.bytes.now)))) c.in-Some.is
     (c.in_ok-planned.ensures.does disk settled v stands))
     (λ disk settled v table stands volume mounted is.

@@ -1,8 +1,5 @@
-use Rattle.std.proofs.Common.{rules, ◌≢◌, ◌≡◌, ◌∙◌, ℕ, sym, subst}
-use Rattle.std.specs.Prelude.{OnOk}
-use Rattle.inofile.specs.Inodes.{IsKnown, loaded}
-use Rattle.paths.proofs.Looks.{looks_err, looks_ok}
-use Rattle.records.specs.Steps.{IsAtHand}
+use Rattle.std.proofs.Common.{rules, ◌∙◌}
+use Rattle.paths.proofs.Looks.{looks_ok}
 use Rattle.records.proofs.LaterLaws.{brings_failed, brings_load}
 use Rattle.records.proofs.StandLaws.{looks_stays, stands_with}
 use Rattle.records.proofs.marks.load_beside.Goals as goal

@@ -1,4 +1,4 @@
-use Rattle.std.proofs.Common.{Option, Some, sym, subst, arith}
+use Rattle.std.proofs.Common.{Option, sym, subst, arith}
 use Rattle.model.specs.Records.{with_node_attributes}
 use Rattle.model.specs.Touches.{touched_at}
 use Rattle.model.specs.declared.attributes.Attributes.{Attributes}

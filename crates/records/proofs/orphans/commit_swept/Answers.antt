@@ -1,7 +1,7 @@
-use Rattle.std.proofs.Common.{◌≡◌, ◌+◌, ◌≤◌, ◌∙◌, ap, subst, sym, arith}
+use Rattle.std.proofs.Common.{◌∙◌, ap, subst, sym, arith}
 use Rattle.layout.specs.StateLimits.{limits_of}
 use Rattle.model.specs.Attributes.{KeepsTime}
-use Rattle.model.specs.Records.{Change, applied, edited, marked_nodes, touches_of}
+use Rattle.model.specs.Records.{edited, touches_of}
 use Rattle.model.specs.Volumes.{IsMounted, Volume, swept}
 use Rattle.model.proofs.MarkLemmas.{swept-marked}
 use Rattle.images.specs.Soundness.{by_bytes}

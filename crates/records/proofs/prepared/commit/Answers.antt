@@ -1,5 +1,4 @@
-use Rattle.std.proofs.Common.{◌+◌, ◌≤◌, ap, subst, arith}
-use Rattle.layout.specs.Limits.{Sizes}
+use Rattle.std.proofs.Common.{ap, subst, arith}
 use Rattle.layout.specs.StateLimits.{limits_of}
 use Rattle.model.specs.Attributes.{KeepsTime}
 use Rattle.model.specs.Records.{edited, touches_of}

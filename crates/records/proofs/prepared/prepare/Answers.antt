@@ -22,5 +22,5 @@ returns-in-Rename g c = rw c.in-Rename.is c.prepare_rename.ensures
 pub returns-in-SetFile : goal.returns-in-SetFile
 returns-in-SetFile g c = rw c.in-SetFile.is (of_known c.prepare_bytes-in-SetFile.ensures.decides)
 
-pub returns-in-ChangeMode : goal.returns-in-ChangeMode
-returns-in-ChangeMode g c = rw c.in-ChangeMode.is (of_known c.prepare_mode.ensures)
+pub returns-in-ChangeAttributes : goal.returns-in-ChangeAttributes
+returns-in-ChangeAttributes g c = rw c.in-ChangeAttributes.is (of_known c.prepare_attributes.ensures.decides)

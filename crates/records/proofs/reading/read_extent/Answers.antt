@@ -1,4 +1,4 @@
-use Rattle.std.proofs.Common.{◌≡◌, ◌∙◌, ℕ, ap, subst}
+use Rattle.std.proofs.Common.{ℕ, ap, subst}
 use Rattle.blocktree.specs.Trees.{AreSound}
 use Rattle.model.specs.Volumes.{is_file_node}
 use Rattle.inofile.specs.Settled.{content_of_object}

@@ -1,4 +1,5 @@
-use Rattle.std.proofs.Common.{◌+◌, ◌≤◌, Option, Some, sym, subst}
+use Rattle.std.proofs.Common.{◌+◌, ◌≤◌, Option, Some, sym, subst, arith}
+use Rattle.model.specs.Attributes.{set_given}
 use Rattle.model.specs.Volumes.{Node}
 use Rattle.inofile.specs.Objects.{IsObjectOrNone}
 use Rattle.inofile.specs.Room.{room_of}
@@ -6,7 +7,8 @@ use Rattle.inofile.specs.declared.inode_file.ObjectSlot.TheVariants.{Changed}
 use Rattle.records.specs.Room.{UpdateRoom}
 use Rattle.records.specs.Steps.{FitsUpdate, Updates}
 use Rattle.records.specs.declared.steps.Update.{Update}
-use Rattle.records.proofs.RoomLaws.{bytes_room, links_room, mode_room, names_room, set_room}
+use Rattle.records.proofs.MarkLaws.{touched_room}
+use Rattle.records.proofs.RoomLaws.{bytes_room, links_room, names_room, set_room}
 use Rattle.records.proofs.steps.update_object.Goals as goal
 
 pub commit_edit-requires : goal.commit_edit-requires
@@ -24,10 +26,10 @@ returns-in-Names-clause-updates c = λ detail disk inodes settled found to stand
     let up = subst (λ (u : Update). Updates detail disk inodes settled found c.args.object.now u to) c.in-Names.is updates in
     subst (λ (o : Option Node). IsObjectOrNone detail disk inodes settled c.commit_edit.new.object o) (sym up.2) (c.commit_edit.ensures.edits detail disk inodes settled found up.0 stands up.1)
 
-pub returns-in-SetMode-clause-updates : goal.returns-in-SetMode-clause-updates
-returns-in-SetMode-clause-updates c = λ detail disk inodes settled found to stands updates.
-    let up = subst (λ (u : Update). Updates detail disk inodes settled found c.args.object.now u to) c.in-SetMode.is updates in
-    subst (λ (o : Option Node). IsObjectOrNone detail disk inodes settled c.set_mode.new.object o) (sym up.1) (c.set_mode.ensures.sets detail disk inodes settled found stands up.0)
+pub returns-in-Attributes-clause-updates : goal.returns-in-Attributes-clause-updates
+returns-in-Attributes-clause-updates c = λ detail disk inodes settled found to stands updates.
+    let up = subst (λ (u : Update). Updates detail disk inodes settled found c.args.object.now u to) c.in-Attributes.is updates in
+    subst (λ (o : Option Node). IsObjectOrNone detail disk inodes settled c.set_attributes.new.object o) (sym up.1) (c.set_attributes.ensures.sets detail disk inodes settled found stands up.0)
 
 pub returns-in-Bytes-clause-updates : goal.returns-in-Bytes-clause-updates
 returns-in-Bytes-clause-updates c = λ detail disk inodes settled found to stands updates.
@@ -52,12 +54,14 @@ returns-in-Names-clause-room c = λ detail disk inodes settled base found to slo
     subst (λ (o : Option Node). room_of (Some (Changed c.commit_edit.new.object)) base o ≤ room_of slot base found + k) (sym up.2)
     (names_room detail disk inodes settled slot base found c.args.object.now c.commit_edit.new.object c.in-Names.edit k up.0 up.1 had c.commit_edit.ensures.room few)
 
-pub returns-in-SetMode-clause-room : goal.returns-in-SetMode-clause-room
-returns-in-SetMode-clause-room c = λ detail disk inodes settled base found to slot k stands updates had room.
-    let up = subst (λ (u : Update). Updates detail disk inodes settled found c.args.object.now u to) c.in-SetMode.is updates in
-    let few = subst (λ (u : Update). UpdateRoom c.args.object.now u k) c.in-SetMode.is room in
-    subst (λ (o : Option Node). room_of (Some (Changed c.set_mode.new.object)) base o ≤ room_of slot base found + k) (sym up.1)
-    (mode_room detail disk inodes settled slot base found c.args.object.now c.set_mode.new.object c.in-SetMode.mode k stands up.0 had c.set_mode.ensures.room few)
+pub returns-in-Attributes-clause-room : goal.returns-in-Attributes-clause-room
+returns-in-Attributes-clause-room c = λ detail disk inodes settled base found to slot k stands updates had room.
+    let up = subst (λ (u : Update). Updates detail disk inodes settled found c.args.object.now u to) c.in-Attributes.is updates in
+    let few = subst (λ (u : Update). UpdateRoom c.args.object.now u k) c.in-Attributes.is room in
+    let f = set_given c.in-Attributes.permissions c.in-Attributes.modified in
+    let raised = touched_room detail disk inodes settled slot base f found c.args.object.now c.set_attributes.new.object stands
+    (c.set_attributes.ensures.sets detail disk inodes settled found stands up.0) had c.set_attributes.ensures.room in
+    subst (λ (o : Option Node). room_of (Some (Changed c.set_attributes.new.object)) base o ≤ room_of slot base found + k) (sym up.1) (omega (arith, raised, few))
 
 pub returns-in-Bytes-clause-room : goal.returns-in-Bytes-clause-room
 returns-in-Bytes-clause-room c = λ detail disk inodes settled base found to slot k stands updates had room.

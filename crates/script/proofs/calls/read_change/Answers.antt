@@ -29,6 +29,18 @@ returns-in_err-old-in-RenameNew c = at_form change_form call_words IsPathCallInF
 pub returns-in_err-path-in-Chmod : goal.returns-in_err-path-in-Chmod
 returns-in_err-path-in-Chmod c = at_form change_form call_words IsPathCallInForm (λ v. verb_name v ∷ []) c.args.verb verb.Chmod (map (λ word. word.now) c.args.words.now) c.from_residual-in_err-path-in-Chmod.result c.in-Chmod.is (search rules)
 
+pub returns-in_err-path-in-Chown : goal.returns-in_err-path-in-Chown
+returns-in_err-path-in-Chown c = at_form change_form call_words IsPathCallInForm (λ v. verb_name v ∷ []) c.args.verb verb.Chown (map (λ word. word.now) c.args.words.now) c.from_residual-in_err-path-in-Chown.result c.in-Chown.is (search rules)
+
+pub returns-in_err-path-in-Lchown : goal.returns-in_err-path-in-Lchown
+returns-in_err-path-in-Lchown c = at_form change_form call_words IsPathCallInForm (λ v. verb_name v ∷ []) c.args.verb verb.Lchown (map (λ word. word.now) c.args.words.now) c.from_residual-in_err-path-in-Lchown.result c.in-Lchown.is (search rules)
+
+pub returns-in_err-path-in-Utimens : goal.returns-in_err-path-in-Utimens
+returns-in_err-path-in-Utimens c = at_form change_form call_words IsPathCallInForm (λ v. verb_name v ∷ []) c.args.verb verb.Utimens (map (λ word. word.now) c.args.words.now) c.from_residual-in_err-path-in-Utimens.result c.in-Utimens.is (search rules)
+
+pub returns-in_err-path-in-Lutimens : goal.returns-in_err-path-in-Lutimens
+returns-in_err-path-in-Lutimens c = at_form change_form call_words IsPathCallInForm (λ v. verb_name v ∷ []) c.args.verb verb.Lutimens (map (λ word. word.now) c.args.words.now) c.from_residual-in_err-path-in-Lutimens.result c.in-Lutimens.is (search rules)
+
 pub returns-in_err-path-in-Truncate : goal.returns-in_err-path-in-Truncate
 returns-in_err-path-in-Truncate c = at_form change_form call_words IsPathCallInForm (λ v. verb_name v ∷ []) c.args.verb verb.Truncate (map (λ word. word.now) c.args.words.now) c.from_residual-in_err-path-in-Truncate.result c.in-Truncate.is (search rules)
 
@@ -42,5 +54,5 @@ pub returns-in_default : goal.returns-in_default
 returns-in_default c = record {
   spelled = tt;
   good = tt;
-  refused = λ _ vs _ _. not_change c.args.verb c.in_default.not-Mkdir c.in_default.not-Rmdir c.in_default.not-Unlink c.in_default.not-Link c.in_default.not-Symlink c.in_default.not-Rename c.in_default.not-RenameNew c.in_default.not-Chmod c.in_default.not-Truncate c.in_default.not-Store c.in_default.not-Set vs;
+  refused = λ _ vs _ _. not_change c.args.verb c.in_default.not-Mkdir c.in_default.not-Rmdir c.in_default.not-Unlink c.in_default.not-Link c.in_default.not-Symlink c.in_default.not-Rename c.in_default.not-RenameNew c.in_default.not-Chmod c.in_default.not-Chown c.in_default.not-Lchown c.in_default.not-Utimens c.in_default.not-Lutimens c.in_default.not-Truncate c.in_default.not-Store c.in_default.not-Set vs;
 }

@@ -17,6 +17,12 @@ returns-in_err-path-in-Stat c = at_form call_form call_words IsPathCallInForm (�
 pub returns-in_err-path-in-Lstat : goal.returns-in_err-path-in-Lstat
 returns-in_err-path-in-Lstat c = at_form call_form call_words IsPathCallInForm (λ v. verb_name v ∷ []) c.args.verb verb.Lstat (map (λ word. word.now) c.args.words.now) c.from_residual-in_err-path-in-Lstat.result c.in-Lstat.is (search rules)
 
+pub returns-in_err-path-in-Attr : goal.returns-in_err-path-in-Attr
+returns-in_err-path-in-Attr c = at_form call_form call_words IsPathCallInForm (λ v. verb_name v ∷ []) c.args.verb verb.Attr (map (λ word. word.now) c.args.words.now) c.from_residual-in_err-path-in-Attr.result c.in-Attr.is (search rules)
+
+pub returns-in_err-path-in-Lattr : goal.returns-in_err-path-in-Lattr
+returns-in_err-path-in-Lattr c = at_form call_form call_words IsPathCallInForm (λ v. verb_name v ∷ []) c.args.verb verb.Lattr (map (λ word. word.now) c.args.words.now) c.from_residual-in_err-path-in-Lattr.result c.in-Lattr.is (search rules)
+
 pub returns-in_err-path-in-Readlink : goal.returns-in_err-path-in-Readlink
 returns-in_err-path-in-Readlink c = at_form call_form call_words IsPathCallInForm (λ v. verb_name v ∷ []) c.args.verb verb.Readlink (map (λ word. word.now) c.args.words.now) c.from_residual-in_err-path-in-Readlink.result c.in-Readlink.is (search rules)
 
@@ -24,4 +30,4 @@ pub returns-in_err-path-in-Get : goal.returns-in_err-path-in-Get
 returns-in_err-path-in-Get c = at_form call_form call_words IsPathCallInForm (λ v. verb_name v ∷ []) c.args.verb verb.Get (map (λ word. word.now) c.args.words.now) c.from_residual-in_err-path-in-Get.result c.in-Get.is (search rules)
 
 pub returns-in_default : goal.returns-in_default
-returns-in_default c = change_read c.args.verb _ _ c.in_default.not-List c.in_default.not-Entries c.in_default.not-Stat c.in_default.not-Lstat c.in_default.not-Readlink c.in_default.not-Get c.read_change.ensures
+returns-in_default c = change_read c.args.verb _ _ c.in_default.not-List c.in_default.not-Entries c.in_default.not-Stat c.in_default.not-Lstat c.in_default.not-Attr c.in_default.not-Lattr c.in_default.not-Readlink c.in_default.not-Get c.read_change.ensures

@@ -26,9 +26,15 @@ returns-in_err-fd-in-Ftruncate c = at_form file_form command_words IsCommandInFo
 pub returns-in_err-fd-in-Fchmod : goal.returns-in_err-fd-in-Fchmod
 returns-in_err-fd-in-Fchmod c = at_form file_form command_words IsCommandInForm (λ v. verb_name v ∷ []) c.args.verb verb.Fchmod (map (λ word. word.now) c.args.words.now) c.from_residual-in_err-fd-in-Fchmod.result c.in-Fchmod.is (search rules)
 
+pub returns-in_err-fd-in-Fchown : goal.returns-in_err-fd-in-Fchown
+returns-in_err-fd-in-Fchown c = at_form file_form command_words IsCommandInForm (λ v. verb_name v ∷ []) c.args.verb verb.Fchown (map (λ word. word.now) c.args.words.now) c.from_residual-in_err-fd-in-Fchown.result c.in-Fchown.is (search rules)
+
+pub returns-in_err-fd-in-Futimens : goal.returns-in_err-fd-in-Futimens
+returns-in_err-fd-in-Futimens c = at_form file_form command_words IsCommandInForm (λ v. verb_name v ∷ []) c.args.verb verb.Futimens (map (λ word. word.now) c.args.words.now) c.from_residual-in_err-fd-in-Futimens.result c.in-Futimens.is (search rules)
+
 pub returns-in_default : goal.returns-in_default
 returns-in_default c = record {
   spelled = tt;
   good = tt;
-  refused = λ _ vs _ _. not_file c.args.verb c.in_default.not-Read c.in_default.not-Write c.in_default.not-Pread c.in_default.not-Pwrite c.in_default.not-Lseek c.in_default.not-Ftruncate c.in_default.not-Fchmod vs;
+  refused = λ _ vs _ _. not_file c.args.verb c.in_default.not-Read c.in_default.not-Write c.in_default.not-Pread c.in_default.not-Pwrite c.in_default.not-Lseek c.in_default.not-Ftruncate c.in_default.not-Fchmod c.in_default.not-Fchown c.in_default.not-Futimens vs;
 }

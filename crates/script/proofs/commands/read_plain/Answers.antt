@@ -18,6 +18,9 @@ returns-in_err-fd-in-Close c = at_form command_form command_words IsCommandInFor
 pub returns-in_err-fd-in-Fstat : goal.returns-in_err-fd-in-Fstat
 returns-in_err-fd-in-Fstat c = at_form command_form command_words IsCommandInForm (λ v. verb_name v ∷ []) c.args.verb verb.Fstat (map (λ word. word.now) c.args.words.now) c.from_residual-in_err-fd-in-Fstat.result c.in-Fstat.is (search rules)
 
+pub returns-in_err-fd-in-Fattr : goal.returns-in_err-fd-in-Fattr
+returns-in_err-fd-in-Fattr c = at_form command_form command_words IsCommandInForm (λ v. verb_name v ∷ []) c.args.verb verb.Fattr (map (λ word. word.now) c.args.words.now) c.from_residual-in_err-fd-in-Fattr.result c.in-Fattr.is (search rules)
+
 pub returns-in_err-fd-in-Fsync : goal.returns-in_err-fd-in-Fsync
 returns-in_err-fd-in-Fsync c = at_form command_form command_words IsCommandInForm (λ v. verb_name v ∷ []) c.args.verb verb.Fsync (map (λ word. word.now) c.args.words.now) c.from_residual-in_err-fd-in-Fsync.result c.in-Fsync.is (search rules)
 
@@ -27,8 +30,11 @@ returns-in_err-path-in-Extent c = at_form command_form command_words IsCommandIn
 pub returns-in_err-seconds-in-At : goal.returns-in_err-seconds-in-At
 returns-in_err-seconds-in-At c = at_form command_form command_words IsCommandInForm (λ v. verb_name v ∷ []) c.args.verb verb.At (map (λ word. word.now) c.args.words.now) c.from_residual-in_err-seconds-in-At.result c.in-At.is (search rules)
 
+pub returns-in_err-owner-in-As : goal.returns-in_err-owner-in-As
+returns-in_err-owner-in-As c = at_form command_form command_words IsCommandInForm (λ v. verb_name v ∷ []) c.args.verb verb.As (map (λ word. word.now) c.args.words.now) c.from_residual-in_err-owner-in-As.result c.in-As.is (search rules)
+
 pub returns-in_default : goal.returns-in_default
-returns-in_default c = file_read c.args.verb _ _ c.in_default.not-Open c.in_default.not-OpenStat c.in_default.not-Close c.in_default.not-Fstat c.in_default.not-Fsync c.in_default.not-Extent c.in_default.not-At c.in_default.not-Sync c.in_default.not-Df c.in_default.not-Statfs c.read_file.ensures
+returns-in_default c = file_read c.args.verb _ _ c.in_default.not-Open c.in_default.not-OpenStat c.in_default.not-Close c.in_default.not-Fstat c.in_default.not-Fattr c.in_default.not-Fsync c.in_default.not-Extent c.in_default.not-At c.in_default.not-As c.in_default.not-Sync c.in_default.not-Df c.in_default.not-Statfs c.read_file.ensures
 
 pub returns-in-Sync : goal.returns-in-Sync
 returns-in-Sync c = at_form command_form command_words IsCommandInForm (λ v. verb_name v ∷ []) c.args.verb verb.Sync (map (λ word. word.now) c.args.words.now) c.read_alone.result c.in-Sync.is (alone_read (verb_name verb.Sync ∷ []) command.Sync _ _ refl tt c.read_alone.ensures.read c.read_alone.ensures.refused)

@@ -18,6 +18,9 @@ returns-in-Stat c = pushed _ _ _ _ _ c.in-Stat.is c.push_fields-in-Stat.ensures
 pub returns-in-Lstat : goal.returns-in-Lstat
 returns-in-Lstat c = pushed _ _ _ _ _ c.in-Lstat.is c.push_fields-in-Lstat.ensures
 
+pub returns-in-Attr : goal.returns-in-Attr
+returns-in-Attr c = pushed _ _ _ _ _ c.in-Attr.is c.push_attr.ensures
+
 pub returns-in-Readlink : goal.returns-in-Readlink
 returns-in-Readlink c = pushed _ _ _ _ _ c.in-Readlink.is c.push_fields-in-Readlink.ensures
 
@@ -49,6 +52,12 @@ returns-in-RenameNew c = pushed _ _ _ _ _ c.in-RenameNew.is c.push_fields-in-Ren
 
 pub returns-in-Chmod : goal.returns-in-Chmod
 returns-in-Chmod c = pushed _ _ _ _ _ c.in-Chmod.is c.push_fields-in-Chmod.ensures
+
+pub returns-in-Chown : goal.returns-in-Chown
+returns-in-Chown c = pushed _ _ _ _ _ c.in-Chown.is c.push_chown.ensures
+
+pub returns-in-Utimens : goal.returns-in-Utimens
+returns-in-Utimens c = pushed _ _ _ _ _ c.in-Utimens.is c.push_utimens.ensures
 
 pub returns-in-Truncate : goal.returns-in-Truncate
 returns-in-Truncate c =

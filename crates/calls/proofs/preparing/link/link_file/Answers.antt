@@ -1,6 +1,6 @@
-use Rattle.std.proofs.Common.{◌≡◌, ℕ, false, None, refl, subst}
+use Rattle.std.proofs.Common.{ℕ, false, refl, subst}
 use Rattle.layout.specs.StateLimits.{limits_of}
-use Rattle.model.specs.Paths.{first_refusal, new_text_tests, text_tests}
+use Rattle.model.specs.Paths.{new_text_tests, text_tests}
 use Rattle.model.specs.Records.{link, stamped}
 use Rattle.model.specs.Volumes.{tree_of}
 use Rattle.model.proofs.LeadLemmas.{passed_both}

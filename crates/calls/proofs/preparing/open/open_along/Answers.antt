@@ -1,4 +1,4 @@
-use Rattle.std.proofs.Common.{rules, ◌∙◌, ℕ, Bool, [], not, ◌&&◌, Ok, inr, refl, sym, ap, subst}
+use Rattle.std.proofs.Common.{rules, ◌∙◌, ℕ, Bool, [], not, ◌&&◌, Ok, inr, sym, ap, subst}
 use Rattle.layout.specs.StateLimits.{limits_of}
 use Rattle.layout.specs.Limits.{Sizes}
 use Rattle.model.specs.Attributes.{KeepsTime}
@@ -26,7 +26,7 @@ open_object-requires-in-Directory g c =
     let within = subst (IsPlaceWithin limits.inodes) c.in-Directory.is (subst (IsTargetWithin limits.inodes) c.in-Place.is c.in_ok-target.ensures.within) in
     record {
       now = subst (λ (z : Sizes). KeepsTime (limits_of z).has_attributes c.args.now) (sym c.in_ok-target.ensures.looks.geometry) c.requires.now;
-      number = subst (IsInodeNumber c.resolve.new.inodes.geometry.inodes) (sym c.here-in-Directory.ensures)
+      number = subst (IsInodeNumber c.resolve.new.inodes.geometry.inodes) (sym c.here.ensures)
           (subst (λ (z : Sizes). IsInodeNumber z.inodes (here c.in-Directory.trail)) (sym c.in_ok-target.ensures.looks.geometry)
           (number_here limits.inodes c.in-Directory.trail (search rules) within));
     }
@@ -43,7 +43,7 @@ returns-in-Object-clause-opens g c = follows c.in_ok-target.ensures.looks c.open
     let follow = not (flags.creates && flags.exclusive) in
     let told_at = subst (λ (b : Bool). TellsTarget t v (not b) text c.in_ok-target.target) c.wants_new-follow.ensures (c.in_ok-target.ensures.found disk settled v table stands volume (level_then (limits_of c.args.inodes.now.geometry) [] text c.requires.passed)) in
     let (start, alone) = subst (TellsTarget t v follow text) c.in-Object.is told_at in
-    along_object limits c.args.now v table text flags c.args.mode c.in-Object.number (inr (start, alone)) alone.object alone.here told (opens alone.object alone.here alone.unfollowed))
+    along_object limits c.args.now v table text flags c.args.permissions c.in-Object.number (inr (start, alone)) alone.object alone.here told (opens alone.object alone.here alone.unfollowed))
 
 pub returns-in-Missing-clause-opens : goal.returns-in-Missing-clause-opens
 returns-in-Missing-clause-opens g c = follows c.in_ok-target.ensures.looks c.open_new.ensures.opens (λ disk settled v table stands volume mounted told opens.
@@ -57,9 +57,9 @@ returns-in-Missing-clause-opens g c = follows c.in_ok-target.ensures.looks c.ope
     let x = c.in-Missing.name.items in
     let tree = c.volumes_are_trees.ensures limits v table volume mounted in
     let gap = finds_gap limits v table volume mounted tree c.in-Missing.trail x r (reaches_well limits t tree [] follow text c.requires.passed r reaches) at in
-    along_gap limits c.args.now v table volume mounted tree (here c.in-Missing.trail) x r gap c.volumes_tell_fresh_numbers.ensures c.records_change_trees.ensures c.requires.now flags c.args.mode
+    along_gap limits c.args.now v table volume mounted tree (here c.in-Missing.trail) x r gap c.volumes_tell_fresh_numbers.ensures c.records_change_trees.ensures c.requires.now flags c.args.permissions
     c.volumes_tell_links.ensures c.records_keep_volumes.ensures c.sweeps_keep_volumes.ensures text reaches told
-    (subst (λ (k : ℕ). OpensNew limits c.args.now v flags c.args.mode k x told) c.here.ensures opens))
+    (subst (λ (k : ℕ). OpensNew limits c.args.now v flags c.args.permissions k x told) c.here-parent.ensures opens))
 
 pub returns-in-Refusal-clause-opens : goal.returns-in-Refusal-clause-opens
 returns-in-Refusal-clause-opens g c =
@@ -72,7 +72,7 @@ returns-in-Refusal-clause-opens g c =
     let follow = not (flags.creates && flags.exclusive) in
     let told_at = subst (λ (b : Bool). TellsTarget t v (not b) text c.in_ok-target.target) c.wants_new-follow.ensures (c.in_ok-target.ensures.found disk settled v table stands volume (level_then (limits_of c.args.inodes.now.geometry) [] text c.requires.passed)) in
     let (r, reaches, at) = subst (LeadsAt t v follow text) c.in-Refusal.is (subst (TellsTarget t v follow text) c.in-Place.is told_at) in
-    along_nowhere limits c.args.now v table text flags c.args.mode c.in-Refusal.errno r reaches at tells fd)
+    along_nowhere limits c.args.now v table text flags c.args.permissions c.in-Refusal.errno r reaches at tells fd)
 
 pub returns-in-Directory-clause-opens : goal.returns-in-Directory-clause-opens
 returns-in-Directory-clause-opens g c = follows c.in_ok-target.ensures.looks c.open_object-in-Directory.ensures.opens (λ disk settled v table stands volume mounted told opens.
@@ -83,13 +83,13 @@ returns-in-Directory-clause-opens g c = follows c.in_ok-target.ensures.looks c.o
     let follow = not (flags.creates && flags.exclusive) in
     let told_at = subst (λ (b : Bool). TellsTarget t v (not b) text c.in_ok-target.target) c.wants_new-follow.ensures (c.in_ok-target.ensures.found disk settled v table stands volume (level_then (limits_of c.args.inodes.now.geometry) [] text c.requires.passed)) in
     let (r, reaches, at) = subst (LeadsAt t v follow text) c.in-Directory.is (subst (TellsTarget t v follow text) c.in-Place.is told_at) in
-    let n = c.here-in-Directory.result in
+    let n = c.here.result in
     let leads = along_by t v follow text r (Ok (here c.in-Directory.trail)) reaches (leads_directory limits v volume c.in-Directory.trail r at) in
-    let led = subst (λ (k : ℕ). LeadsAlong t v follow text (Ok k)) (sym c.here-in-Directory.ensures) leads in
+    let led = subst (λ (k : ℕ). LeadsAlong t v follow text (Ok k)) (sym c.here.ensures) leads in
     let ends = subst (λ p. EndsWell v (not c.wants_new-follow.result) (model_place_of p)) c.in-Directory.is (subst (TargetEndsWell v (not c.wants_new-follow.result)) c.in-Place.is (c.in_ok-target.ensures.ends disk settled v stands volume)) in
-    let plain = directory_no_link (found_in (v n)) (ap (λ (k : ℕ). found_in (v k)) c.here-in-Directory.ensures ∙ ends) in
-    let there = object_there limits c.args.now v table text flags c.args.mode n led in
-    along_object limits c.args.now v table text flags c.args.mode n led there.0 there.1 told (opens there.0 there.1 (λ follows. plain)))
+    let plain = directory_no_link (found_in (v n)) (ap (λ (k : ℕ). found_in (v k)) c.here.ensures ∙ ends) in
+    let there = object_there limits c.args.now v table text flags c.args.permissions n led in
+    along_object limits c.args.now v table text flags c.args.permissions n led there.0 there.1 told (opens there.0 there.1 (λ follows. plain)))
 
 pub returns-in-Entry-clause-opens : goal.returns-in-Entry-clause-opens
 returns-in-Entry-clause-opens g c = follows c.in_ok-target.ensures.looks c.open_object-in-Entry.ensures.opens (λ disk settled v table stands volume mounted told opens.
@@ -104,5 +104,5 @@ returns-in-Entry-clause-opens g c = follows c.in_ok-target.ensures.looks c.open_
     let led = along_by t v follow text r (Ok n) reaches (leads_entry limits v volume c.in-Entry._trail c.in-Entry._name.items n r at) in
     let ends = subst (λ (b : Bool). TargetEndsWell v (not b) c.in_ok-target.target) c.wants_new-follow.ensures (c.in_ok-target.ensures.ends disk settled v stands volume) in
     let plain = subst (λ p. EndsWell v follow (model_place_of p)) c.in-Entry.is (subst (TargetEndsWell v follow) c.in-Place.is ends) in
-    let there = object_there limits c.args.now v table text flags c.args.mode n led in
-    along_object limits c.args.now v table text flags c.args.mode n led there.0 there.1 told (opens there.0 there.1 plain))
+    let there = object_there limits c.args.now v table text flags c.args.permissions n led in
+    along_object limits c.args.now v table text flags c.args.permissions n led there.0 there.1 told (opens there.0 there.1 plain))

@@ -19,7 +19,7 @@ returns-in_err-changing-clause-opens g c =
     let made = c.in_err-changing.ensures.prepares in
     fails {X = Changing} _ c.from_residual.result c.from_residual.ensures.1 made.looks made.own made.damaged (λ disk settled v table stands volume mounted errno is. inr (
       not-false c.args.flags.creates c.if-not-flags.false,
-      subst (λ (f : Failure). IfOk (read_outcome {T = Changing} (Err f)) (MakesIn (limits_of c.args.inodes.now.geometry) c.args.now v c.args.parent c.args.name.items (file c.args.mode))) is
+      subst (λ (f : Failure). IfOk (read_outcome {T = Changing} (Err f)) (MakesIn (limits_of c.args.inodes.now.geometry) c.args.now v c.args.parent c.args.name.items (file c.args.permissions))) is
           (made.answers disk settled v table stands volume mounted),
     ))
 
@@ -32,7 +32,7 @@ returns-clause-opens g c =
     grants prepares.looks prepares.ready prepares.timed prepares.does (λ disk settled v table stands volume mounted.
     let d = c.args.parent in
     let x = c.args.name.items in
-    let what = file c.args.mode in
+    let what = file c.args.permissions in
     let makes = prepares.answers disk settled v table stands volume mounted in
     let same = created_number c.in_ok-changing.changing.change c.in-Some.number d makes.0 what x c.in-Some.ensures.some (ap (λ (h : Change). h.edit) makes.1) in
     (not-false c.args.flags.creates c.if-not-flags.false, (makes, makes.1 ∙ ap (λ (k : ℕ). stamped c.args.now (create k d what x)) same, refl, refl, refl)))

@@ -49,7 +49,7 @@ returns g c =
     let over = λ (v : Volume) (names : MovesOver v d c.args.name.items c.args.number k c.args.new_name.items c.args.target).
     subst (λ (z : List ℕ). MovesOver v d z c.args.number k c.deref-2.result.now c.args.target) (sym x)
     (subst (λ (w : List ℕ). MovesOver v d c.args.name.items c.args.number k w c.args.target) (sym y) names) in
-    rw c.note_move.ensures (granted_knowing _ c.in_ok-prepared.ensures says refl (λ disk settled v stands names. (stands, over v names))
+    rw c.note_move.ensures (granted_knowing _ c.in_ok-prepared.ensures says (refl, tt) (λ disk settled v stands names. (stands, over v names))
     (λ disk settled v table stands volume names applies outside. (
       says ∙ same,
       subst (Applies (limits_of c.args.inodes.now.geometry) v) same (applies (stands, over v names, outside)),

@@ -20,7 +20,7 @@ returns-in_err-planned g c =
     (all.answers disk settled v table stands volume mounted file)))
 
 pub returns-in-Some : goal.returns-in-Some
-returns-in-Some g c = grants c.in_ok-planned.ensures.looks (subst (λ p. IfSome p (IsReady c.set_bytes.new.inodes)) c.in-Some.is c.in_ok-planned.ensures.ready) refl
+returns-in-Some g c = grants c.in_ok-planned.ensures.looks (subst (λ p. IfSome p (IsReady c.set_bytes.new.inodes)) c.in-Some.is c.in_ok-planned.ensures.ready) (refl, tt)
     (λ disk settled v stands.
     subst (λ p. IfSome p (λ x. Does disk settled c.set_bytes.new.inodes v x (stamped c.args.now (set_file c.args.number c.args.mode c.args.size)))) c.in-Some.is (c.in_ok-planned.ensures.does disk settled v stands))
     (λ disk settled v table stands volume mounted is.

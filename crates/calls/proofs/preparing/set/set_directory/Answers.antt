@@ -1,5 +1,5 @@
-use Rattle.std.proofs.Common.{◌≡◌, is_some, true, false, refl, sym, ◌∙◌}
-use Rattle.calls.proofs.PrepareSteps.{leaves, refuses}
+use Rattle.std.proofs.Common.{◌≡◌, is_some, false, sym, ◌∙◌}
+use Rattle.calls.proofs.PrepareSteps.{leaves}
 use Rattle.calls.proofs.SetLaws.{directory_has_mode}
 use Rattle.calls.proofs.preparing.set.set_directory.Goals as goal
 

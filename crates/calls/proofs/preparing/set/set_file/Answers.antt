@@ -1,4 +1,4 @@
-use Rattle.std.proofs.Common.{ℕ, ℤ, pos, negsuc, ◌≤◌, nat_abs, w64, Option, Some, IfSome, SFits, arith, sym, subst}
+use Rattle.std.proofs.Common.{ℤ, pos, negsuc, ◌≤◌, nat_abs, w64, Option, Some, IfSome, SFits, arith, subst}
 use Rattle.std.proofs.lemmas.Int.{to_z-of_z}
 use Rattle.model.specs.declared.limits.Limits.{Limits}
 use Rattle.layout.specs.StateLimits.{limits_of}

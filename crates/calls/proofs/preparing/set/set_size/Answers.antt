@@ -1,7 +1,7 @@
-use Rattle.std.proofs.Common.{◌≡◌, ◌∙◌, ℕ, ℤ, nat_abs, w64, Option, Some, ap, sym, subst}
+use Rattle.std.proofs.Common.{◌≡◌, ◌∙◌, ℕ, nat_abs, w64, ap, subst}
 use Rattle.std.proofs.lemmas.Int.{to_z-of_z}
 use Rattle.layout.specs.StateLimits.{limits_of}
-use Rattle.model.specs.Changing.{sets_both, sets_file, truncates_file}
+use Rattle.model.specs.Changing.{sets_both, truncates_file}
 use Rattle.model.specs.Volumes.{tree_of}
 use Rattle.calls.specs.Changing.{ComesOrStays}
 use Rattle.calls.proofs.PrepareSteps.{leaves}

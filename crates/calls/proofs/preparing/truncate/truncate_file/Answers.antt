@@ -22,7 +22,7 @@ returns-in_default g c = grants c.in_ok-planned.ensures.looks tt tt (λ disk set
     subst (λ p. TruncatesBytes (limits_of c.args.inodes.now.geometry) c.args.now v table c.args.number c.args.size (Ok p)) c.in_default.is (c.in_ok-planned.ensures.answers disk settled v table stands volume mounted is))
 
 pub returns : goal.returns
-returns g c = grants c.in_ok-planned.ensures.looks (subst (λ p. IfSome p (IsReady c.truncate_bytes.new.inodes)) c.in-Some.is c.in_ok-planned.ensures.ready) refl
+returns g c = grants c.in_ok-planned.ensures.looks (subst (λ p. IfSome p (IsReady c.truncate_bytes.new.inodes)) c.in-Some.is c.in_ok-planned.ensures.ready) (refl, tt)
     (λ disk settled v stands.
     subst (λ p. IfSome p (λ x. Does disk settled c.truncate_bytes.new.inodes v x (stamped c.args.now (truncate c.args.number c.args.size)))) c.in-Some.is (c.in_ok-planned.ensures.does disk settled v stands))
     (λ disk settled v table stands volume mounted is. (

@@ -26,5 +26,5 @@ pub returns : goal.returns
 returns g c =
     let said = λ (x : List ℕ). stamped c.args.now (remove_name c.args.parent x) in
     let same : said c.deref.result.now ≡ said c.args.name.items = ap said (c.deref.ensures.value ∙ c.in-Some.ensures.some) in
-    granted c.in_ok-prepared.ensures refl (ap said (sym c.deref.ensures.value)) (λ disk settled v stands. stands)
+    granted c.in_ok-prepared.ensures refl (ap said (sym c.deref.ensures.value)) tt (λ disk settled v stands. stands)
     (λ disk settled v table stands volume applies. (ap said c.in-Some.ensures.some, subst (Applies (limits_of c.args.inodes.now.geometry) v) same (applies stands)))

@@ -1,4 +1,4 @@
-use Rattle.std.proofs.Common.{◌∙◌, ℕ, nat_abs, w64, inr, Some, None, Ok, Err, refl, ap, subst}
+use Rattle.std.proofs.Common.{◌∙◌, ℕ, nat_abs, w64, inr, Some, Ok, Err, refl, ap, subst}
 use Rattle.std.proofs.lemmas.Int.{to_z-of_z}
 use Rattle.layout.specs.StateLimits.{limits_of}
 use Rattle.model.specs.declared.errno.Errno.TheVariants.{EISDIR}

@@ -15,7 +15,7 @@ returns-in_default-clause-only c = λ d is e.
 pub returns-then-keeps_limits-clause-found : goal.returns-then-keeps_limits-clause-found
 returns-then-keeps_limits-clause-found c =
     let t = change_takes c.args.layout c.args.bytes.now (change_of c.in-Some.record) (λ i. omega (arith, c.type_inv.bytes i)) (sym c.in-Some.ensures) in
-    (record { time = t.time; limits = c.if-keeps_limits.ensures.0 refl; fields = t.fields }, t.bytes_are)
+    (record { time = t.time; limits = c.if-keeps_limits.ensures.0 refl; fields = t.fields; attributes = t.attributes }, t.bytes_are)
 
 pub returns-then-keeps_limits-clause-only : goal.returns-then-keeps_limits-clause-only
 returns-then-keeps_limits-clause-only c = λ d is e.

@@ -30,7 +30,7 @@ use Rattle.system.specs.declared.error.CallError.{CallError}
 use Rattle.system.specs.declared.error.CallError.TheVariants.{NoRoom}
 use Rattle.system.specs.Serving.{LeavesEither}
 use Rattle.replay.specs.Costs.{IsSizeBefore, KnowsFile}
-use Rattle.system.specs.Systems.{HasState, Parts, disk_of}
+use Rattle.system.specs.Systems.{HasState, Parts, disk_of, system_parts}
 use Rattle.system.proofs.system.System.log.Given.{Over}
 use Rattle.system.proofs.system.System.log.Goals.{After-size_before-size}
 use Rattle.system.proofs.system.System.log.Goals as goal
@@ -70,6 +70,16 @@ returns-then-ne-clause-told g c = λ table s serves knows. record {
   any_moment = λ advances. before _ s _ (c.served_states_open.ensures table s serves);
   done = λ advances does. tt;
 }
+
+pub returns-in-Err-clause-refused : goal.returns-in-Err-clause-refused
+returns-in-Err-clause-refused g c =
+    let old = system_parts {G = g.S.Station} c.args.self.now in
+    let new = c.log_record.new.self in
+    let stays = c.in-Err.ensures.stays in (
+      stays.0 ∙ ap (λ (p : ℕ). let parts : Parts = record old { log = new.log; pledged = p; pledged_then = new.pledged_then } in parts) stays.1.0
+          ∙ ap (λ (p : ℕ). let parts : Parts = record old { log = new.log; pledged = c.args.self.now.pledged; pledged_then = p } in parts) stays.1.1,
+      λ written. c.in-Err.ensures.refused (λ is. written (c.log_error.ensures ∙ ap log_error is)),
+    )
 
 pub returns-in-Err-clause-told : goal.returns-in-Err-clause-told
 returns-in-Err-clause-told g c = λ table s serves knows.
